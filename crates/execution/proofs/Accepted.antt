@@ -166,7 +166,7 @@ fields-back E (o ∷ G) s f fit src =
     let rest = fields-back (E ++ o ∷ []) G (drop 9 s) (f .1) fit' src' in
     sym (take-append-drop 9 s) ∙ ap (λ w. w ++ drop 9 s) first ∙ ap (λ w. field-of o ++ w) rest
 
-some-none : (p : ℕ → Bool) (n : ℕ) → ((k : ℕ) → k < n → p k ≡ false) → some n p ≡ false
+pub some-none : (p : ℕ → Bool) (n : ℕ) → ((k : ℕ) → k < n → p k ≡ false) → some n p ≡ false
 some-none p zero h = refl
 some-none p (suc n) h = ap (λ b. b || some n p) (h n (omega arith)) ∙ some-none p n (λ k l. h k (omega arith))
 

@@ -5,3 +5,4 @@ pub mod Accepted
 pub mod Returned
 pub mod Written
 pub mod Promised
+pub mod Tested

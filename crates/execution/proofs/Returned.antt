@@ -28,7 +28,7 @@ use Rattle.execution.specs.Reading.{action-of, dependence-of, operation-of, bo
 use Rattle.execution.proofs.Walk.{walk-more, walk-end, wrong-source}
 use Rattle.execution.proofs.Judged.{follows-sound, refused-not}
 
-T-true : (b : Bool) → T b → b ≡ true
+pub T-true : (b : Bool) → T b → b ≡ true
 T-true true t = refl
 T-true false t = absurd t
 
@@ -97,7 +97,7 @@ sources-back zero E s k h = refl
 sources-back (suc n) E s k h =
     ap (λ t. cond t (sources-from n E s (k + 1)) (Err (wrong-source k))) (h k (omega arith) (omega arith)) ∙ sources-back n E s (k + 1) (λ j a b. h j (omega arith) (omega arith))
 
-some-false : (p : ℕ → Bool) (n : ℕ) → some n p ≡ false → (k : ℕ) → k < n → p k ≡ false
+pub some-false : (p : ℕ → Bool) (n : ℕ) → some n p ≡ false → (k : ℕ) → k < n → p k ≡ false
 some-false p zero h k l = absurd (omega arith)
 some-false p (suc n) h k l =
     let q = or-parts (p n) (some n p) h in
@@ -114,10 +114,11 @@ round-trip E f =
     let p = and-parts (leb (length E) 32) _ (T-true (formed? E) f) in
     let q = and-parts (in-turn [] E) _ (p .1) in
     let few = leb-true (length E) 32 (p .0) in
-    let src = some-false (λ k. not (sourced E (op E k .action))) (length E) (not-true _ (q .1)) in
-    (edition-back E,
-     walk-back [] E 4 33 (omega arith) (omega arith) (q .0),
-     sources-back (length E) E (writing E) 0 (λ j a b. (let l : j < length E = omega arith in ap (λ v. may-see E v (op E j .action)) (source-at-writing E j l) ∙ seen-own E (op E j .action) (not-false (sourced E (op E j .action)) (src j l)))))
+    let src = some-false (λ k. not (sourced E (op E k .action))) (length E) (not-true _ (q .1)) in (
+      edition-back E,
+      walk-back [] E 4 33 (omega arith) (omega arith) (q .0),
+      sources-back (length E) E (writing E) 0 (λ j a b. (let l : j < length E = omega arith in ap (λ v. may-see E v (op E j .action)) (source-at-writing E j l) ∙ seen-own E (op E j .action) (not-false (sourced E (op E j .action)) (src j l)))),
+    )
 
 -- as one reading
 pub record-back : (E : List Operation) → T (formed? E) → record-in (writing E) ≡ Ok E

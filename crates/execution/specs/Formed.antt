@@ -74,3 +74,7 @@ sourced E act.Branch = true
 -- the rules as a test, in the order in which operations come: it passes exactly what is well-formed
 abbrev pub formed? : List Operation → Bool
 formed? E = leb (length E) 32 && (in-turn [] E && not (some (length E) (λ k. not (sourced E (op E k .action)))))
+
+-- the test passes exactly what is well-formed
+abbrev pub Formed-exactly : Type 0
+Formed-exactly = (E : List Operation) → (T (formed? E) → Well-formed E) × (Well-formed E → T (formed? E))

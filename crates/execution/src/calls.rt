@@ -9,7 +9,6 @@ ghost use lib.ListN.{length};
 ghost use Rattle.std.specs.Results.{Cases};
 ghost use Rattle.std.specs.declared.option.Option.the-variants.{Some, None};
 ghost use Rattle.execution.specs.Operations.{op};
-ghost use Rattle.execution.specs.Formed.{Well-formed};
 ghost use Rattle.execution.specs.Reading.{record-in};
 ghost use Rattle.execution.specs.Calls.{ops, Taken, Same-bytes, Same-execution, Written};
 use super::execution::Execution;
@@ -42,7 +41,7 @@ impl Execution {
     pub fn operation(&self, number: usize) -> Option<Operation>
         ensures { λ r. ⌜ r ≡ cond (ltb number (length (ops (now (self .entry))))) (Some (op (ops (now (self .entry))) number)) None ⌝ }
     {
-        if number < self.listing.len() {
+        if number < self.len() {
             Some(self.listing.at(number))
         } else {
             None
@@ -65,7 +64,7 @@ impl Execution {
     pub fn write(&self, out: &mut [u8]) -> Result<usize, Refusal>
         ensures written { λ r. ⌜ Written (ops (now (self .entry))) (now (out .entry)) r (now (out .exit)) ⌝ }
     {
-        let size = 4 + 9 * self.listing.len();
+        let size = 4 + 9 * self.len();
         if out.len() < size {
             return Err(Refusal::MemoryTooShort);
         }

@@ -5,8 +5,10 @@ mod list;
 mod listing;
 mod operation;
 mod read;
+mod rules;
 mod write;
 
 pub use execution::Execution;
 pub use operation::Action;
 pub use operation::Operation;
+pub use rules::rules_are_tested;

@@ -20,7 +20,9 @@ use field::expect_field;
 use field::within;
 
 const EDITION_TAG: u8 = 0x10;
+
 const OPERATION_TAG: u8 = 0x11;
+
 const NONE: u8 = 0xFF;
 
 /// The action that the bytes of a kind, an address and a source say; the kind is one of the four.
@@ -106,7 +108,8 @@ impl Listing {
     {
         match self.at(number).action {
             Action::Load { address, .. } => {
-                usize::from(byte) < self.len() && is_store_to(self.at(usize::from(byte)).action, address)
+                usize::from(byte) < self.len()
+                    && is_store_to(self.at(usize::from(byte)).action, address)
             }
             _ => byte == NONE,
         }

@@ -9,6 +9,7 @@ ghost use Rattle.std.specs.Results.{Cases};
 ghost use Rattle.field.specs.Faults.{fault};
 ghost use Rattle.field.specs.Fields.{whole, body-of, expected};
 ghost use Rattle.std.specs.declared.result.Result.the-variants.{Ok, Err};
+
 mod fault;
 mod refusal;
 

@@ -1,10 +1,7 @@
 -- What rule books keep: of two operations of one thread, the first above the second in the program.
-use mathlib.Core.Bool.{Bool, true, false, _&&_, _||_, not}
-use mathlib.Core.List.{List}
-use mathlib.Core.Logic.{_≢_}
-use Prim.Native.Nat.{ℕ, _+_, _*_, _<_}
+use mathlib.Core.Bool.{Bool, true, false, _&&_, _||_}
+use Prim.Native.Nat.{ℕ, _<_}
 use lib.Dec.{T, eqb}
-use lib.ListN.{getD}
 use Rattle.std.specs.declared.option.Option.{Option}
 use Rattle.std.specs.declared.option.Option.the-variants.{Some, None}
 use Rattle.execution.specs.declared.operation.Action.{Action}
@@ -47,3 +44,54 @@ conflict access.Branch access.Branch = false
 -- the law of every rule book: two operations on one address, at least one a store, keep their order
 abbrev pub Law : (Seen → Seen → Bool) → Type 0
 Law keeps = (x y : Seen) → x .number < y .number → T (conflict (x .access) (y .access)) → T (keeps x y)
+
+-- a dependence is on the operation with the number a
+abbrev pub needed : Option ℕ → ℕ → Bool
+needed None a = false
+needed (Some d) a = eqb d a
+
+-- the first of these two depends on the second
+abbrev pub depends-on : Seen → Seen → Bool
+depends-on y x = needed (y .dependence) (x .number)
+
+-- sequential consistency: every pair
+abbrev pub sc : Seen → Seen → Bool
+sc x y = true
+
+-- the access is a load or a store
+abbrev pub is-memory : Access → Bool
+is-memory (access.Load x) = true
+is-memory (access.Store x) = true
+is-memory access.Fence = false
+is-memory access.Branch = false
+
+abbrev pub is-store : Access → Bool
+is-store (access.Load x) = false
+is-store (access.Store x) = true
+is-store access.Fence = false
+is-store access.Branch = false
+
+abbrev pub is-fence : Access → Bool
+is-fence (access.Load x) = false
+is-fence (access.Store x) = false
+is-fence access.Fence = true
+is-fence access.Branch = false
+
+abbrev pub is-branch : Access → Bool
+is-branch (access.Load x) = false
+is-branch (access.Store x) = false
+is-branch access.Fence = false
+is-branch access.Branch = true
+
+-- a fence keeps loads and stores on their side of it, a branch keeps branches and stores below it, and the law's pairs are kept
+abbrev pub weak-order : Access → Access → Bool
+weak-order x y =
+    (is-memory x && is-fence y) || ((is-fence x && is-memory y) || ((is-branch x && (is-branch y || is-store y)) || conflict x y))
+
+-- nothing else: two loads may pass each other, on one address too
+abbrev pub weak : Seen → Seen → Bool
+weak x y = weak-order (x .access) (y .access)
+
+-- what a book keeps, and also every pair whose second depends on its first
+abbrev pub dependent : (Seen → Seen → Bool) → Seen → Seen → Bool
+dependent keeps x y = keeps x y || depends-on y x

@@ -1,1 +1,6 @@
 pub mod Books
+pub mod Places
+pub mod Tables
+pub mod Writing
+pub mod Taking
+pub mod Codes
