@@ -6,3 +6,4 @@ pub mod Returned
 pub mod Written
 pub mod Promised
 pub mod Tested
+pub mod Asked

@@ -4,6 +4,7 @@ mod execution;
 mod list;
 mod listing;
 mod operation;
+mod questions;
 mod read;
 mod rules;
 mod write;
