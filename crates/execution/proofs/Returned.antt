@@ -58,8 +58,8 @@ field-back E o rest few f =
     let x = address-number (o .action) in
     let b = source-byte (o .action) in
     let d = dependence-byte (o .dependence) in
-    let dep : depends-well E t (o .dependence) ≡ true = and-parts _ _ (and-parts (leb t 8) _ f .1) .1 in
     let here : expected s 17 6 layer.Record ≡ Ok (body-of s) = ok-expected s 17 6 layer.Record (omega arith) refl refl in
+    let dep : depends-well E t (o .dependence) ≡ true = and-parts _ _ (and-parts (leb t 8) _ f .1) .1 in
     let none : body-refusal E t k x d ≡ None = refused-not E t k x d (follows-sound E o few f) in
     let same : operation-from E (body-of s) ≡ unless (body-refusal E t k (x / 256 * 256 + x % 256) d) layer.Record (record { thread = t; action = action-of k (x / 256 * 256 + x % 256) b; dependence = dependence-of d }) = refl in
     ap (λ r. and-then r (operation-from E)) here ∙ same ∙ ap (λ v. unless (body-refusal E t k v d) layer.Record (record { thread = t; action = action-of k v b; dependence = dependence-of d })) (halves x)

@@ -1,0 +1,4 @@
+mod Room
+mod Kept
+mod Recorded
+mod Counted

@@ -1,0 +1,7 @@
+use mathlib.Core.Path.{refl}
+use native.Mathlib.Omega.{arith}
+use Rattle.std.proofs.shelf.Lists.{take-more-set}
+use Rattle.serialization.proofs.arrangement.Arrangement.push.Needs as need
+
+pub returns : need.returns
+returns c = record { more = take-more-set (c .args .self .now .numbers) (c .args .self .now .count) (c .args .number) (omega arith); count = refl }

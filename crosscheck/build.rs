@@ -1,0 +1,8 @@
+//! Links the static library that `rt staticlib bridge` leaves in target/staticlib.
+
+fn main() {
+    let here = std::env::var("CARGO_MANIFEST_DIR").expect("cargo sets it");
+    println!("cargo:rustc-link-search=native={here}/../target/staticlib");
+    println!("cargo:rustc-link-lib=static=bridge");
+    println!("cargo:rerun-if-changed={here}/../target/staticlib/libbridge.a");
+}
