@@ -5,7 +5,7 @@ use mathlib.Core.List.{List}
 use Prim.Native.Nat.{ℕ, _<_}
 use lib.Bits.{bitAnd}
 use lib.Dec.{T}
-use lib.ListN.{length, getD}
+use lib.ListN.{length, getD, take}
 use Rattle.std.proofs.shelf.Tests.{and-parts}
 use Rattle.std.specs.declared.option.Option.{Option}
 use Rattle.std.specs.declared.option.Option.the-variants.{Some, None}
@@ -32,10 +32,11 @@ turned false false q = refl
 -- rule b: the candidates are after the source of the load, and not after the load
 pub candidate : (e : Execution) (o : Order) (l u m : ℕ) → u ≡ source (ops e) l → u < length (ops e) → l < length (ops e)
     → ((s : ℕ) → bit m s ≡ (before (o .rows) u s && not (before (o .rows) l s)))
-    → (s : ℕ) → (bit m s && touches (ops e) s l) ≡ lacks (ops e) (rows-of e o) (claim-b l s)
-candidate e o l u m is h k mask s =
+    → (s : ℕ) (t : Bool) → t ≡ (bit m s && touches (ops e) s l) → t ≡ lacks (ops e) (rows-of e o) (claim-b l s)
+candidate e o l u m is h k mask s t told =
     let R = rows-of e o in
-    ap (λ b. b && touches (ops e) s l) (mask s ∙ ap₂ (λ x y. x && not y) (sym (cut-before (length (ops e)) u s (o .rows) h)) (sym (cut-before (length (ops e)) l s (o .rows) k)))
+    told
+    ∙ ap (λ b. b && touches (ops e) s l) (mask s ∙ ap₂ (λ x y. x && not y) (sym (cut-before (length (ops e)) u s (o .rows) h)) (sym (cut-before (length (ops e)) l s (o .rows) k)))
     ∙ ap (λ z. (before R z s && not (before R l s)) && touches (ops e) s l) is
     ∙ turned (touches (ops e) s l) (before R (source (ops e) l) s) (not (before R l s))
 
@@ -56,13 +57,15 @@ after-both e o l k s t u v i j h g p q b =
     ∙ ap₂ (λ x y. before (rows-of e o) x b && before (rows-of e o) y b) i j
 
 -- what a that is before both loads is not before
-pub before-both : (e : Execution) (o : Order) (m a l k : ℕ) → a < length (ops e) → true ≡ before (rows-of e o) a l → true ≡ before (rows-of e o) a k
+pub before-both : (e : Execution) (o : Order) (n m a l k : ℕ) → n ≡ length (ops e) → a < length (ops e) → true ≡ before (take n (o .rows)) a l → true ≡ before (take n (o .rows)) a k
     → (r : Option ℕ) → Lowest-of (λ b. bit m b && not (before (o .rows) a b)) r
     → Lowest-of (λ b. (before (rows-of e o) a l && before (rows-of e o) a k) && (bit m b && not (before (rows-of e o) a b))) r
-before-both e o m a l k h p q =
+before-both e o n m a l k is h p q =
     let R = rows-of e o in
+    let first : true ≡ before R a l = p ∙ ap (λ n. before (take n (o .rows)) a l) is in
+    let second : true ≡ before R a k = q ∙ ap (λ n. before (take n (o .rows)) a k) is in
     lowest-same (λ b. bit m b && not (before (o .rows) a b)) (λ b. (before R a l && before R a k) && (bit m b && not (before R a b)))
-    (λ b. ap (λ z. bit m b && not z) (sym (cut-before (length (ops e)) a b (o .rows) h)) ∙ ap₂ (λ x y. (x && y) && (bit m b && not (before R a b))) p q)
+    (λ b. ap (λ z. bit m b && not z) (sym (cut-before (length (ops e)) a b (o .rows) h)) ∙ ap₂ (λ x y. (x && y) && (bit m b && not (before R a b))) first second)
 
 -- rule c: of what is after both sources, what a is not before, where a is before both loads
 module _ (E : List Operation) (R : Rows) (l k m : ℕ) (is : crossed E l k ≡ true) (mask : (b : ℕ) → bit m b ≡ (before R (source E l) b && before R (source E k) b)) (a : ℕ) where

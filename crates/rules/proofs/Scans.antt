@@ -6,6 +6,7 @@ use mathlib.Core.Logic.{inl, inr}
 use Prim.Native.Nat.{ℕ, _+_, _<_, _≤_}
 use native.Mathlib.Omega.{arith}
 use Rattle.std.specs.Options.{orOther}
+use Rattle.std.specs.declared.option.Option.{Option}
 use Rattle.std.specs.declared.option.Option.the-variants.{Some, None}
 use Rattle.std.proofs.shelf.Tests.{cases-eq, cond-true, cond-false}
 use Rattle.order.specs.Bits.{Lowest-of}
@@ -21,13 +22,16 @@ module _ {A : Type 0} (f : A → Bool) where
   one-fails q e = cond-false (f q) _ _ (sym e)
 
   -- two lists, one after the other
-  pub first-append : (xs ys : List A) → orOther (first-by f xs) (first-by f ys) ≡ first-by f (xs ++ ys)
+  first-append : (xs ys : List A) → orOther (first-by f xs) (first-by f ys) ≡ first-by f (xs ++ ys)
   first-append [] ys = refl
   first-append (x ∷ xs) ys = go (f x) (first-append xs ys)
     where
       go : (b : Bool) → orOther (first-by f xs) (first-by f ys) ≡ first-by f (xs ++ ys) → orOther (cond b (Some x) (first-by f xs)) (first-by f ys) ≡ cond b (Some x) (first-by f (xs ++ ys))
       go true e = refl
       go false e = e
+
+  pub first-of-three : (xs ys zs : List A) (o : Option A) → o ≡ orOther (orOther (first-by f xs) (first-by f ys)) (first-by f zs) → o ≡ first-by f (xs ++ ys ++ zs)
+  first-of-three xs ys zs o e = e ∙ ap (λ p. orOther p (first-by f zs)) (first-append xs ys) ∙ first-append (xs ++ ys) zs
 
   module _ (g : ℕ → List A) where
     -- of the lists before k none has one that passes

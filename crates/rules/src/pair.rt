@@ -24,7 +24,7 @@ impl Claim {
         ensures { λ r. ⌜ r ≡ pair (ops (now (execution .entry))) (call-of self) ⌝ }
     {
         match self {
-            Claim::A { load, store } => { (usize::from(store), seen(execution, usize::from(load))) }
+            Claim::A { load, store } => (usize::from(store), seen(execution, usize::from(load))),
             Claim::B { load, store } => (usize::from(load), usize::from(store)),
             Claim::C { a, b, .. } => (usize::from(a), usize::from(b)),
             Claim::Split { s, t } => (usize::from(s), usize::from(t)),

@@ -1,14 +1,11 @@
 use mathlib.Core.Path.{_≡_, sym, ap, _∙_}
-use mathlib.Core.Bool.{Bool, _&&_}
+use mathlib.Core.Bool.{Bool, true, false}
 use mathlib.Core.List.{[], _∷_}
-use Prim.Native.Nat.{ℕ, _<_}
 use native.Mathlib.Omega.{arith}
 use lib.ListN.{length}
 use Rattle.execution.specs.declared.execution.Execution.{Execution}
-use Rattle.execution.specs.Operations.{touches}
 use Rattle.execution.specs.Calls.{ops}
 use Rattle.order.specs.declared.order.Order.{Order}
-use Rattle.order.specs.Bits.{bit}
 use Rattle.theory.specs.Case.{Call, lacks, claim-b}
 use Rattle.rules.specs.Claims.{rows-of, called}
 use Rattle.rules.proofs.Scans.{one-passes, one-fails, passed-more, all-passed, left-at}
@@ -31,9 +28,9 @@ loop-store-again c =
     let o = c .args .order .now in
     let n = c .size-n .ensures .all in
     let p = c .in-Some .ensures tt in
-    let same = candidate e o (c .scan .load) (c .in-Some .source) (c .after-source-only-candidates .result) (p .1) (p .2) (omega arith) (c .after-source-only-candidates .ensures) (c .loop-store .store) in (
+    let told = candidate e o (c .scan .load) (c .in-Some .source) (c .after-source-only-candidates .result) (p .1) (p .2) (omega arith) (c .after-source-only-candidates .ensures) (c .loop-store .store) false (c .if-is-candidate .ensures tt) in (
       c .loop-store .inv .0,
-      passed-more (test e o) (λ s. claim-b (c .scan .load) s ∷ []) (c .loop-store .store) (c .loop-store .inv .1) (one-fails (test e o) (claim-b (c .scan .load) (c .loop-store .store)) (c .if-is-candidate .ensures tt ∙ same)),
+      passed-more (test e o) (λ s. claim-b (c .scan .load) s ∷ []) (c .loop-store .store) (c .loop-store .inv .1) (one-fails (test e o) (claim-b (c .scan .load) (c .loop-store .store)) told),
       c .loop-store .inv .2,
     )
 
@@ -60,6 +57,6 @@ returns-then-is-candidate c =
     let n = c .size-n .ensures .all in
     let p = c .in-Some .ensures tt in
     let q = claim-b (c .scan .load) (c .loop-store .store) in
-    let same = candidate e o (c .scan .load) (c .in-Some .source) (c .after-source-only-candidates .result) (p .1) (p .2) (omega arith) (c .after-source-only-candidates .ensures) (c .loop-store .store) in
+    let told = candidate e o (c .scan .load) (c .in-Some .source) (c .after-source-only-candidates .result) (p .1) (p .2) (omega arith) (c .after-source-only-candidates .ensures) (c .loop-store .store) true (c .if-is-candidate .ensures tt) in
     sym (left-at (test e o) (of-load-b (ops e)) (length (ops e)) (c .scan .load) q (omega arith) (c .loop-store .inv .0)
-    (left-at (test e o) (λ s. claim-b (c .scan .load) s ∷ []) (length (ops e)) (c .loop-store .store) q (omega arith) (c .loop-store .inv .1) (one-passes (test e o) q (c .if-is-candidate .ensures tt ∙ same))))
+    (left-at (test e o) (λ s. claim-b (c .scan .load) s ∷ []) (length (ops e)) (c .loop-store .store) q (omega arith) (c .loop-store .inv .1) (one-passes (test e o) q told)))
