@@ -7,8 +7,10 @@ ghost use lib.ListN.{length};
 ghost use Rattle.execution.specs.Calls.{ops};
 ghost use Rattle.theory.specs.Order.{before, Settled, Says};
 ghost use Rattle.theory.specs.Serial.{Derived, Opening, Least};
-ghost use Rattle.theory.specs.Case.{pair, with-pair};
-ghost use Rattle.rules.specs.Claims.{rows-of, call-of};
+ghost use Rattle.theory.specs.Lists.{first-by};
+ghost use Rattle.theory.specs.Case.{pair, with-pair, lacks, claims};
+ghost use Rattle.std.specs.Options.{Cases as BySome};
+ghost use Rattle.rules.specs.Claims.{rows-of, call-of, called};
 use super::claim::Claim;
 use super::missing::first_missing;
 use execution::Execution;
@@ -22,6 +24,22 @@ fn record_claim(execution: &Execution, order: &mut Order, claim: Claim)
 {
     let (a, b) = claim.pair(execution);
     order.record(a, b);
+}
+
+/// Records the first pair that the rules ask for and the order lacks, and says by which claim.
+pub fn record_first(execution: &Execution, order: &mut Order) -> Option<Claim>
+    requires { ⌜ Settled (length (ops (now execution))) (rows-of (now execution) (now order)) ⌝ }
+    ensures first { λ r. ⌜ called r ≡ first-by (lacks (ops (now (execution .entry))) (rows-of (now (execution .entry)) (now (order .entry)))) (claims (ops (now (execution .entry)))) ⌝ }
+    ensures recorded { λ r. ⌜ BySome r (now (order .exit) ≡ now (order .entry)) (λ claim. now (order .exit) .rows ≡ with-pair (ops (now (execution .entry))) (now (order .entry) .rows) (call-of claim)) ⌝ }
+    ensures settled { λ _. ⌜ Settled (length (ops (now (execution .entry)))) (rows-of (now (execution .entry)) (now (order .exit))) ⌝ }
+{
+    match first_missing(execution, order) {
+        Some(claim) => {
+            record_claim(execution, order, claim);
+            Some(claim)
+        }
+        None => None,
+    }
 }
 
 /// Closes the order under the three rules: it then says exactly what follows from what it said.

@@ -1,6 +1,7 @@
 //! One real task from beginning to end, told in plain words: a record of a run is read, looked at and judged.
 mod books;
 mod broken;
+mod orders;
 mod record;
 mod words;
 
@@ -84,6 +85,7 @@ fn tell(rt: &LibcRuntime) -> Result<(), AnyError> {
     record::list(rt, &execution)?;
     record::write_back(rt, &execution, &MESSAGE)?;
     books::compare(rt, &execution)?;
+    orders::tell(rt, &execution)?;
     broken::try_copies(rt, &mut execution, &MESSAGE)?;
     record::list(rt, &execution)
 }

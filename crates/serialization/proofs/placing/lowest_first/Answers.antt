@@ -15,7 +15,7 @@ loop-arrangement-again c =
     let small = few (c .args .execution .now) in
     let next : c .in-Some .next < c .len-n .result = c .in-Some .ensures tt .within in
     state-more (ops (c .args .execution .now)) (c .args .order .now .rows) (here .count) (c .loop-arrangement .placed) (arranged here) (c .loop-arrangement .inv) (c .len-n .result) (c .len-n .ensures)
-    (c .loop-arrangement-test .taken) (c .in-Some .next) (omega arith) (c .in-Some .ensures tt .first) (c .push .last .self .count) (c .push .ensures .count) (arranged (c .push .last .self)) (c .push .ensures .more)
+    (omega arith) (c .in-Some .next) (omega arith) (c .in-Some .ensures tt .first) (c .push .last .self .count) (c .push .ensures .count) (arranged (c .push .last .self)) (c .push .ensures .more)
 
 pub returns-in-rest : need.returns-in-rest
 returns-in-rest c =
