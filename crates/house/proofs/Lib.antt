@@ -1,0 +1,4 @@
+pub mod Weighing
+pub mod Come
+pub mod Nexts
+mod Ends
