@@ -1,0 +1,3 @@
+pub mod Replied
+pub mod Written
+pub mod Heard
