@@ -3,6 +3,7 @@ mod books;
 mod broken;
 mod orders;
 mod record;
+mod story;
 mod words;
 
 use execution::Execution;
@@ -86,6 +87,7 @@ fn tell(rt: &LibcRuntime) -> Result<(), AnyError> {
     record::write_back(rt, &execution, &MESSAGE)?;
     books::compare(rt, &execution)?;
     orders::tell(rt, &execution)?;
+    story::tell_cases(rt, &MESSAGE)?;
     broken::try_copies(rt, &mut execution, &MESSAGE)?;
     record::list(rt, &execution)
 }
