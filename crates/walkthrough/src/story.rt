@@ -74,7 +74,7 @@ const DISAGREE: [u8; 58] = [
     0xFF, // 5: thread 4 loads 1, and saw 0
 ];
 
-/// No rule asks for anything here and there is no cycle, and yet no memory can have done it: the smallest record of that kind.
+/// No rule asks for anything here and there is no cycle, and yet no memory can have done it: the smallest such record that we know of.
 const NO_VERDICT: [u8; 112] = [
     0x10,
     0,
