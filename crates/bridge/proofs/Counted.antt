@@ -1,13 +1,10 @@
 -- One record, one book and one relation have one count.
-use Rattle.std.proofs.Common.{◌≡◌, ℕ, Bool, List, Ok, Err, Result, sym, refl, ap, ◌∙◌, subst, arith}
-use Rattle.field.specs.declared.refusal.Refusal.{Refusal}
+use Rattle.std.proofs.Common.{◌≡◌, ℕ, Bool, List, Ok, Err, Result, sym, ap, ◌∙◌, subst, arith}
 use Rattle.field.specs.declared.fault.Fault.{Fault}
 use Rattle.execution.specs.declared.operation.Operation.{Operation}
 use Rattle.execution.specs.declared.execution.Execution.{Execution}
 use Rattle.execution.specs.Calls.{ops, Taken}
-use Rattle.execution.specs.Reading.{record_in}
-use Rattle.rulebook.specs.declared.book.Book.{Book}
-use Rattle.rulebook.specs.Codes.{book_keeps, book_by_code}
+use Rattle.rulebook.specs.Codes.{book_keeps}
 use Rattle.order.specs.declared.order.Order.{Order}
 use Rattle.theory.specs.Order.{Rows, pairs, Says}
 use Rattle.theory.specs.Serial.{local}

@@ -1,4 +1,5 @@
 //! The judge for other languages: a handful of functions on bytes and numbers.
+#![tactic(auto)]
 
 ghost use Rattle.std.specs.Prelude.{length, IfSome, MatchOption};
 ghost use Rattle.execution.specs.Calls.{ops};

@@ -1,4 +1,6 @@
 //! A case: opened on an execution under a rule book, it takes claims and answers questions until it has its verdict.
+#![tactic(auto)]
+
 mod answers;
 mod calls;
 mod case;

@@ -1,5 +1,5 @@
 -- What a claim does to a desk is a reply of the case.
-use Rattle.std.proofs.Common.{◌≡◌, ℕ, Bool, T, Some, None, Option, Result, sym, refl, ap, subst}
+use Rattle.std.proofs.Common.{◌≡◌, ℕ, Bool, T, Some, None, Option, Result, sym, refl, subst}
 use Rattle.field.specs.declared.refusal.Refusal.{Refusal}
 use Rattle.theory.specs.Case.{is_claim, refused, admitted, refusal, after, Replies, turned_away, taken}
 use Rattle.rules.specs.declared.claim.Claim.{Claim}

@@ -1,12 +1,10 @@
 -- The room of choices as the theory's list of those that stand.
-use Rattle.std.proofs.Common.{◌≡◌, ℕ, zero, suc, ◌+◌, ◌-◌, ◌<◌, ◌≤◌, List, [], ◌∷◌, ◌++◌, map, reverse, length, get_or, take, set, sym, refl, ap, ◌∙◌, subst, add-one, arith, length-take, take-suc, take-suc-set}
+use Rattle.std.proofs.Common.{◌≡◌, ℕ, suc, ◌+◌, ◌-◌, ◌<◌, ◌≤◌, List, [], ◌∷◌, ◌++◌, map, reverse, length, get_or, take, set, refl, ap, ◌∙◌, subst, add-one, arith, length-take, take-suc, take-suc-set}
 use mathlib.Core.List.{reverse-append}
 use lib.ListN.{length-map, length-reverse}
-use lib.Seq.{take-set-le}
 use Rattle.theory.specs.Order.{Rows, recorded}
 use Rattle.theory.specs.Case as theory
 use Rattle.theory.specs.Case.{Model, undone, open_with}
-use Rattle.desk.specs.declared.choice.Side.{Side}
 use Rattle.desk.specs.declared.choice.Side.TheVariants.{First, Second}
 use Rattle.desk.specs.declared.choice.Choice.{Choice}
 use Rattle.desk.specs.Model.{stacked, choice_of, side_of}

@@ -13,10 +13,10 @@ use super::state::State;
 impl Desk {
     /// Tries `one` before `other`, and keeps the order as it stands for the other way.
     pub(super) fn choose(&mut self, given: &Given, one: u8, other: u8)
-        requires depth_bound { self.old.depth < 496 }
+        requires room { self.old.depth < 496 }
         requires one_in_bounds { one < length (events given.now) }
         requires other_in_bounds { other < length (events given.now) }
-        requires state_value { self.old.state ≡ State.Open }
+        requires still_open { self.old.state ≡ State.Open }
         ensures { model given.now self.new ≡ after (events given.now) (model given.now self.old) (split one other) }
     {
         self.choices[self.depth] = Choice {

@@ -1,4 +1,6 @@
 //! What changes in a case, and what a claim does to it.
+#![tactic(auto)]
+
 mod choice;
 mod choose;
 mod claims;

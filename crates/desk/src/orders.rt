@@ -11,8 +11,8 @@ use super::state::State;
 impl Desk {
     /// Admits an order that was found to be a serialization: the case is serial, and the order shows it.
     pub fn admit(&mut self, given: &Given, order: &[u8])
-        requires order_len { length order.now ≡ length (events given.now) }
-        requires state_value { self.old.state ≡ State.Open }
+        requires full_length { length order.now ≡ length (events given.now) }
+        requires still_open { self.old.state ≡ State.Open }
         ensures { model given.now self.new ≡ after (events given.now) (model given.now self.old) (propose order.now) }
     {
         let mut admitted = self.admitted;

@@ -16,7 +16,7 @@ impl Desk {
     /// that one goes to its second side. Where there is none, both ways of every choice came to a cycle, and nothing is left to try.
     pub(super) fn undo(&mut self, given: &Given)
         requires fit { Fit (events given.now) (model given.now self.old) }
-        requires state_value { self.old.state ≡ State.Open }
+        requires still_open { self.old.state ≡ State.Open }
         ensures { model given.now self.new ≡ undone (model given.now self.old).order (model given.now self.old).choices }
     {
         while self.depth > 0 {

@@ -1,4 +1,5 @@
 //! Executed examples: every refusal of a record, a table and a writing, with its byte and its layer; and what is just accepted.
+#![tactic(auto)]
 
 mod records;
 mod tables;

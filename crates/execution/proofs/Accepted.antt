@@ -1,17 +1,17 @@
 -- An accepted record: its operations keep the rules, and it is their writing.
-use Rattle.std.proofs.Common.{◌≡◌, ℕ, zero, suc, ◌+◌, ◌-◌, ◌*◌, ◌/◌, ◌%◌, ◌<◌, ◌≤◌, Bool, true, false, cond, not, ◌&&◌, ◌||◌, T, eqb, ltb, leb, List, [], ◌∷◌, ◌++◌, length, get_or, take, drop, Some, None, Ok, Err, Option, Result, sym, refl, ap, ◌∙◌, subst, inl, inr, append_assoc, append-nil, arith, length-drop, rules}
+use Rattle.std.proofs.Common.{◌≡◌, ℕ, zero, suc, ◌+◌, ◌*◌, ◌/◌, ◌%◌, ◌<◌, ◌≤◌, Bool, true, false, cond, not, ◌&&◌, ◌||◌, T, eqb, ltb, leb, List, [], ◌∷◌, ◌++◌, length, get_or, take, drop, Ok, Err, Result, sym, refl, ap, ◌∙◌, subst, inl, inr, append_assoc, append-nil, arith, rules}
 use Rattle.std.proofs.lemmas.List.{same_lists, places, take-append-drop, get_or-drop, length_push, nil_from_length}
-use Rattle.std.proofs.lemmas.Bool.{cases_Bool, cases_eq, and_from, eqb-true, leb-false, le-leb, not_from_true, not_from_false, or_parts, eqb-false, ltb-false}
+use Rattle.std.proofs.lemmas.Bool.{cases_eq, and_from, eqb-true, leb-false, le-leb, not_from_true, not_from_false}
 use Rattle.std.proofs.lemmas.Bool.Decides.{nat_tests}
 use Rattle.field.specs.declared.fault.Layer.TheVariants as layer
 use Rattle.field.specs.declared.fault.Fault.{Fault}
-use Rattle.field.specs.Fields.{told, body_of, expected}
+use Rattle.field.specs.Fields.{body_of, expected}
 use Rattle.field.specs.Faults.{moved, and_then}
-use Rattle.field.proofs.Expected.{past, unless_ok, and_then_ok, Stands, expected_ok, body_at}
+use Rattle.field.proofs.Expected.{unless_ok, and_then_ok, Stands, expected_ok, body_at}
 use Rattle.execution.specs.declared.operation.Action.{Action}
 use Rattle.execution.specs.declared.operation.Action.TheVariants as act
 use Rattle.execution.specs.declared.operation.Operation.{Operation}
-use Rattle.execution.specs.Operations.{idle, op}
+use Rattle.execution.specs.Operations.{op}
 use Rattle.execution.specs.Formed.{some, follows, in_turn, sourced, formed?}
 use Rattle.execution.specs.Writing.{kind_byte, address_number, source_byte, dependence_byte, field_of, fields_of, writing}
 use Rattle.execution.specs.Reading.{action_of, dependence_of, thread_in, kind_in, address_in, source_in, dependence_in, operation_of, body_refusal, operation_from, operation_in, edition_from, edition_in, read_from, operations_in, may_see, source_at, sources_from, record_in}

@@ -1,13 +1,13 @@
 -- One operation: its body is not refused exactly if the operation may stand there.
-use Rattle.std.proofs.Common.{◌≡◌, ℕ, ◌+◌, ◌*◌, ◌/◌, ◌%◌, ◌<◌, ◌≤◌, Bool, true, false, cond, not, ◌&&◌, ◌||◌, eqb, ltb, leb, List, [], ◌∷◌, ◌++◌, length, Some, None, Option, sym, refl, ap, ◌∙◌, subst, inl, inr, arith}
-use Rattle.std.proofs.lemmas.Bool.{cases_Bool, and_parts, and_from, and_left, and_right, or_parts, or_from, or_left, or_right, or_cases, not-true, not-false, not_from_true, not_from_false, eqb-true, eqb-false, ltb-true, ltb-false, leb-true, leb-false, lt-ltb, le-ltb, le-leb, lt-leb, cond-true, cond-false}
+use Rattle.std.proofs.Common.{◌≡◌, ℕ, ◌<◌, Bool, true, false, cond, not, ◌&&◌, ◌||◌, eqb, ltb, leb, List, length, Some, None, Option, sym, refl, ap, ◌∙◌, subst, inl, inr, arith}
+use Rattle.std.proofs.lemmas.Bool.{cases_Bool, and_parts, and_from, or_parts, or_left, or_right, not-false, not_from_true, not_from_false, eqb-true, ltb-false, leb-true, le-ltb, le-leb, lt-leb, cond-false}
 use Rattle.field.specs.declared.refusal.Refusal.{Refusal}
 use Rattle.field.specs.declared.refusal.Refusal.TheVariants as refusal
 use Rattle.execution.specs.declared.operation.Action.{Action}
 use Rattle.execution.specs.declared.operation.Action.TheVariants as act
 use Rattle.execution.specs.declared.operation.Operation.{Operation}
 use Rattle.execution.specs.Formed.{opened, first_store, depends_well, follows}
-use Rattle.execution.specs.Writing.{kind_byte, address_number, source_byte, dependence_byte}
+use Rattle.execution.specs.Writing.{kind_byte, address_number, dependence_byte}
 use Rattle.execution.specs.Reading.{action_of, dependence_of, may_depend, body_refusal}
 
 -- what it means that a body is not refused

@@ -1,7 +1,7 @@
 -- Reading what was written: the writing of an execution that keeps the rules is accepted, and says that execution.
-use Rattle.std.proofs.Common.{◌≡◌, ℕ, zero, suc, ◌+◌, ◌-◌, ◌*◌, ◌/◌, ◌%◌, ◌<◌, ◌≤◌, Bool, true, false, cond, not, ◌&&◌, T, eqb, ltb, leb, List, [], ◌∷◌, ◌++◌, length, get_or, take, drop, Some, None, Ok, Err, Option, Result, sym, refl, ap, ◌∙◌, subst, inl, inr, append_assoc, append-nil, arith, length-append}
+use Rattle.std.proofs.Common.{◌≡◌, ℕ, zero, suc, ◌+◌, ◌-◌, ◌*◌, ◌/◌, ◌%◌, ◌<◌, ◌≤◌, Bool, true, false, cond, not, T, ltb, leb, List, [], ◌∷◌, ◌++◌, length, get_or, Some, None, Ok, Err, Option, sym, refl, ap, ◌∙◌, inl, inr, append_assoc, append-nil, arith}
 use Rattle.std.proofs.lemmas.List.{get_or-append-add, length_push}
-use Rattle.std.proofs.lemmas.Bool.{and_parts, not-true, not-false, or_parts, ltb-true, eqb-true, leb-true, le-leb, cond-true}
+use Rattle.std.proofs.lemmas.Bool.{and_parts, not-true, not-false, or_parts, ltb-true, leb-true}
 use Rattle.std.proofs.lemmas.Bool.Decides.{eqb_tells}
 use Rattle.field.specs.declared.fault.Layer.TheVariants as layer
 use Rattle.field.specs.Faults.{unless, and_then}
@@ -10,10 +10,10 @@ use Rattle.field.proofs.Expected.{ok_expected}
 use Rattle.execution.specs.declared.operation.Action.{Action}
 use Rattle.execution.specs.declared.operation.Action.TheVariants as act
 use Rattle.execution.specs.declared.operation.Operation.{Operation}
-use Rattle.execution.specs.Operations.{idle, op}
-use Rattle.execution.specs.Formed.{some, follows, first_store, depends_well, in_turn, sourced, formed?}
+use Rattle.execution.specs.Operations.{op}
+use Rattle.execution.specs.Formed.{some, follows, depends_well, in_turn, sourced, formed?}
 use Rattle.execution.specs.Writing.{kind_byte, address_number, source_byte, dependence_byte, field_of, fields_of, writing}
-use Rattle.execution.specs.Reading.{action_of, dependence_of, operation_of, body_refusal, operation_from, operation_in, edition_from, edition_in, read_from, operations_in, may_see, source_at, sources_from, record_in}
+use Rattle.execution.specs.Reading.{action_of, dependence_of, body_refusal, operation_from, operation_in, edition_from, edition_in, read_from, operations_in, may_see, source_at, sources_from, record_in}
 use Rattle.execution.proofs.Walk.{walk_more, walk_end, wrong_source}
 use Rattle.execution.proofs.Judged.{follows_sound, refused_not}
 

@@ -1,4 +1,6 @@
 //! Executions: what was recorded of a program's run, and its record as bytes.
+#![tactic(auto)]
+
 mod calls;
 mod execution;
 mod list;

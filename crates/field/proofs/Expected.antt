@@ -1,5 +1,5 @@
 -- What follows from a reading that succeeded.
-use Rattle.std.proofs.Common.{◌≡◌, ℕ, ◌+◌, ◌*◌, ◌<◌, ◌≤◌, Bool, true, false, cond, not, eqb, leb, List, length, get_or, take, drop, Some, None, Ok, Err, Option, Result, sym, refl, ap, ◌∙◌, arith}
+use Rattle.std.proofs.Common.{◌≡◌, ℕ, ◌+◌, ◌<◌, ◌≤◌, Bool, true, false, cond, not, eqb, leb, List, length, get_or, drop, Some, None, Ok, Err, Option, Result, refl, ◌∙◌, arith}
 use Rattle.std.proofs.lemmas.List.{get_or-take, get_or-drop}
 use Rattle.std.proofs.lemmas.Bool.{not-false, and_parts, and_from, eqb-true, eq-eqb, leb-true, le-leb, cond-false, not_from_true}
 use Rattle.field.specs.declared.refusal.Refusal.{Refusal}

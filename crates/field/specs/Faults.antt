@@ -1,5 +1,5 @@
 -- Faults, and how a layer above passes one on.
-use Rattle.std.specs.Prelude.{ℕ, ◌+◌, Bool, cond, Some, None, Ok, Err, Option, Result}
+use Rattle.std.specs.Prelude.{ℕ, ◌+◌, Some, None, Ok, Err, Option, Result}
 use Rattle.field.specs.declared.refusal.Refusal.{Refusal}
 use Rattle.field.specs.declared.fault.Layer.{Layer}
 use Rattle.field.specs.declared.fault.Fault.{Fault}

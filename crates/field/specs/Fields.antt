@@ -1,6 +1,5 @@
 -- One tag byte, two length bytes (high byte first), and that many body bytes.
-use Rattle.std.specs.Prelude.{◌≡◌, ℕ, ◌+◌, ◌*◌, Bool, true, false, cond, not, ◌&&◌, List, length, take, drop, Ok, Err, Result, ◌==◌, nat_le, slice_index}
-use Rattle.field.specs.declared.refusal.Refusal.{Refusal}
+use Rattle.std.specs.Prelude.{ℕ, ◌+◌, ◌*◌, Bool, cond, not, ◌&&◌, List, length, take, drop, Ok, Err, Result, ◌==◌, nat_le, slice_index}
 use Rattle.field.specs.declared.refusal.Refusal.TheVariants as refusal
 use Rattle.field.specs.declared.fault.Layer.{Layer}
 use Rattle.field.specs.declared.fault.Layer.TheVariants as layer

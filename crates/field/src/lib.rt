@@ -1,5 +1,6 @@
 //! Fields: one tag byte, two length bytes (high byte first) and that many body bytes.
 //! Everything that is read from bytes is made of them, and everything that is refused is named here.
+#![tactic(auto)]
 
 ghost use Rattle.std.specs.Prelude.{◌≡◌, ℕ, ◌+◌, ◌≤◌, true, false, length, Ok, Err, MatchResult, slice_index};
 ghost use Rattle.field.specs.Faults.{fault};

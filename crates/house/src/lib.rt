@@ -1,4 +1,6 @@
 //! What the house does in a case: it judges the orders that are proposed, and takes turns of its own.
+#![tactic(auto)]
+
 mod budget;
 mod next;
 mod orders;

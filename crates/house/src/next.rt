@@ -11,7 +11,7 @@ use rules::{Claim, first_missing, first_split};
 /// The first claim that is not refused: a close, where there is a cycle, then a claim by rule a, by b, by c, then a split.
 /// A split comes last, since what a rule asks for needs no trial.
 pub(super) fn next_claim(given: &Given, desk: &Desk) -> Option<Claim>
-    requires state_value { desk.now.state ≡ State.Open }
+    requires still_open { desk.now.state ≡ State.Open }
     requires settled { Settled (length (events given.now)) (model given.now desk.now).order }
     ensures { Next given.now desk.now result }
 {

@@ -1,4 +1,6 @@
 //! The orders with which a case begins, and how much they leave to decide.
+#![tactic(auto)]
+
 mod direct;
 mod local;
 mod opened;

@@ -1,4 +1,6 @@
 //! The recorded order of an execution: which operations are known to come before which.
+#![tactic(auto)]
+
 mod bits;
 mod guard;
 mod order;

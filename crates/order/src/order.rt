@@ -38,8 +38,8 @@ impl Order {
 
     /// Whether a is before b.
     pub fn before(&self, a: usize, b: usize) -> bool
-        requires a_bound { a < 32 }
-        requires b_bound { b < 32 }
+        requires a_in_bounds { a < 32 }
+        requires b_in_bounds { b < 32 }
         ensures { result ≡ before self.now.rows a b }
     {
         has(self.rows[a], b)
@@ -47,9 +47,9 @@ impl Order {
 
     /// Whether a is before b, by the first n rows alone.
     pub fn stands(&self, n: usize, a: usize, b: usize) -> bool
-        requires n_bound { n ≤ 32 }
-        requires a_lt_n { a < n }
-        requires b_bound { b < 32 }
+        requires n_fits { n ≤ 32 }
+        requires a_in_bounds { a < n }
+        requires b_in_bounds { b < 32 }
         ensures { result ≡ before (take n self.now.rows) a b }
     {
         has(self.rows[..n][a], b)
@@ -57,8 +57,8 @@ impl Order {
 
     /// Records that a is before b. So that the order stays transitive, all up to a come before all from b on.
     pub fn record(&mut self, a: usize, b: usize)
-        requires a_bound { a < 32 }
-        requires b_bound { b < 32 }
+        requires a_in_bounds { a < 32 }
+        requires b_in_bounds { b < 32 }
         ensures records { self.new.rows ≡ recorded a b self.old.rows }
         ensures spreads { Spread a b self.old.rows self.new.rows }
     {

@@ -1,5 +1,5 @@
 -- A table is read from exactly the bytes that are its writing.
-use Rattle.std.proofs.Common.{◌≡◌, ℕ, ◌+◌, ◌-◌, ◌*◌, ◌<◌, ◌≤◌, Bool, true, false, cond, not, ◌&&◌, eqb, leb, List, [], ◌∷◌, map, length, get_or, take, drop, Ok, Err, Result, sym, refl, ap, ◌∙◌, arith, length-drop, eqb-true, leb-true}
+use Rattle.std.proofs.Common.{◌≡◌, ℕ, ◌+◌, ◌≤◌, Bool, true, false, cond, not, ◌&&◌, eqb, leb, List, [], ◌∷◌, map, length, get_or, take, drop, Ok, Err, Result, sym, refl, ap, ◌∙◌, arith, length-drop, eqb-true, leb-true}
 use Rattle.std.proofs.lemmas.List.{take_all, drop_all, drop_more, length-map}
 use Rattle.std.proofs.lemmas.Bool.Decides.{nat_tests}
 use Rattle.field.specs.declared.refusal.Refusal.{Refusal}
@@ -7,12 +7,12 @@ use Rattle.field.specs.declared.fault.Layer.{Layer}
 use Rattle.field.specs.declared.fault.Layer.TheVariants as layer
 use Rattle.field.specs.declared.fault.Fault.{Fault}
 use Rattle.field.specs.Faults.{moved, and_then}
-use Rattle.field.specs.Fields.{told, whole, body_of, expected}
+use Rattle.field.specs.Fields.{told, whole, expected}
 use Rattle.rulebook.specs.declared.entry.Entry.{Entry}
 use Rattle.rulebook.specs.declared.entry.Entry.TheVariants as entry
 use Rattle.rulebook.specs.declared.table.Table.{Table}
 use Rattle.rulebook.specs.Tables.{entry_of, obeys}
-use Rattle.rulebook.specs.Writing.{known, entries_of, judged, found_by, ended, table_in, code_of, table_writing, WritingOf}
+use Rattle.rulebook.specs.Writing.{known, entries_of, judged, found_by, ended, table_in, code_of, WritingOf}
 use Rattle.rulebook.specs.Taking.{Found, Exact}
 
 -- codes and entries, back and forth

@@ -1,4 +1,6 @@
 //! Rule books: which pairs of operations of one thread keep their order.
+#![tactic(auto)]
+
 mod book;
 mod dependence;
 mod entry;

@@ -1,5 +1,5 @@
 -- What the masks of rows say of the claims.
-use Rattle.std.proofs.Common.{◌≡◌, ℕ, ◌<◌, Bool, true, false, not, ◌&&◌, T, List, length, get_or, take, Some, None, Option, sym, refl, ap, ◌∙◌, subst, ap₂}
+use Rattle.std.proofs.Common.{◌≡◌, ℕ, ◌<◌, Bool, true, false, not, ◌&&◌, T, List, length, get_or, take, Option, sym, refl, ap, ◌∙◌, subst, ap₂}
 use lib.Bits.{bit_and}
 use Rattle.std.proofs.lemmas.Bool.{and_parts}
 use Rattle.execution.specs.declared.execution.Execution.{Execution}

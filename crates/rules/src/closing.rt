@@ -15,8 +15,8 @@ use order::Order;
 
 /// Records the pair of a claim.
 fn record_claim(execution: &Execution, order: &mut Order, claim: Claim)
-    requires claim_bound { (pair (ops execution.now) (call_of claim)).0 < 32 }
-    requires claim_bound_2 { (pair (ops execution.now) (call_of claim)).1 < 32 }
+    requires first_in_bounds { (pair (ops execution.now) (call_of claim)).0 < 32 }
+    requires second_in_bounds { (pair (ops execution.now) (call_of claim)).1 < 32 }
     ensures { order.new.rows ≡ with_pair (ops execution.now) order.old.rows (call_of claim) }
 {
     let (a, b) = claim.pair(execution);

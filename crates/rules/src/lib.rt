@@ -1,4 +1,6 @@
 //! The three rules on a recorded order: what they still ask for, what follows by them, and what would follow.
+#![tactic(auto)]
+
 mod claim;
 mod closing;
 mod missing;

@@ -17,7 +17,7 @@ fn lacks_a(execution: &Execution, order: &Order, load: usize, source: usize, sto
     requires load_in_bounds { load < length (ops execution.now) }
     requires store_in_bounds { store < length (ops execution.now) }
     requires source_in_bounds { source < length (ops execution.now) }
-    requires source_value { source ≡ source_in (ops execution.now) load }
+    requires its_source { source ≡ source_in (ops execution.now) load }
     ensures { result ≡ lacks (ops execution.now) (rows_of execution.now order.now) (claim_a load store) }
 {
     let n = size(execution);

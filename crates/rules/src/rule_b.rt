@@ -16,8 +16,8 @@ use order::Order;
 
 /// All that is after the source and not after the load, as bits.
 fn after_source_only(order: &Order, source: usize, load: usize) -> u32
-    requires source_bound { source < 32 }
-    requires load_bound { load < 32 }
+    requires source_in_bounds { source < 32 }
+    requires load_in_bounds { load < 32 }
     ensures { (s : ℕ) → bit result s ≡ (before order.now.rows source s && not (before order.now.rows load s)) }
 {
     order.row(source) & !order.row(load)

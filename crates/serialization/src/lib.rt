@@ -1,4 +1,6 @@
 //! Serializations: orders of all operations, as lists of their numbers, in which each load sees the last store before it to its address.
+#![tactic(auto)]
+
 mod arrangement;
 mod places;
 mod placing;

@@ -142,13 +142,13 @@ module _ (L : ℕ → ℕ → Bool) (E : List Operation) where
     taken_sound M (least a b) c e m = absurd c
 
     replies_sound : {M M' : Model} {q : Call} {r : Answer} → Replies L E M q r M' → Sound M → Sound M'
-    replies_sound (Replies.turned-away e) m = m
+    replies_sound (Replies.turned_away e) m = m
     replies_sound (Replies.taken {M} {q} c e) m = taken_sound M q c e m
     replies_sound (Replies.proposed {M} {σ} e S) m = record {
       served = λ _. S;
       covered = λ τ Q. (not_impossible_then, (m.covered τ Q).1);
     }
-    replies_sound (Replies.no-order e d) m = m
+    replies_sound (Replies.no_order e d) m = m
     replies_sound (Replies.asked y e p q) m = m
     replies_sound (Replies.imagined Q e p) m = m
 

@@ -47,9 +47,9 @@ module _ (L : ℕ → ℕ → Bool) (E : List Operation) (σ : List ℕ) (S : Se
     pub derived_holds : (P : ℕ → ℕ → Bool) → ((x y : ℕ) → T (P x y) → Before x y) → {a b : ℕ} → Derived E P a b → Before a b
     derived_holds P base (Derived.given {a} {b} h) = base a b h
     derived_holds P base (Derived.joined {a} {b} {c} p q) = let h : Before a b = derived_holds P base p in let k : Before b c = derived_holds P base q in omega arith
-    derived_holds P base (Derived.rule-a {l} {s} k d p) = rule_a_holds l s k d (derived_holds P base p)
-    derived_holds P base (Derived.rule-b {l} {s} k p) = rule_b_holds l s k (derived_holds P base p)
-    derived_holds P base (Derived.rule-c {l} {k} {a} {b} h d p q u v) =
+    derived_holds P base (Derived.rule_a {l} {s} k d p) = rule_a_holds l s k d (derived_holds P base p)
+    derived_holds P base (Derived.rule_b {l} {s} k p) = rule_b_holds l s k (derived_holds P base p)
+    derived_holds P base (Derived.rule_c {l} {k} {a} {b} h d p q u v) =
         let t = three (load_at E l) (load_at E k) (same_address E l k) h in
         rule_c_holds l k a b t.0 t.1 t.2 d (derived_holds P base p) (derived_holds P base q) (derived_holds P base u) (derived_holds P base v)
 

@@ -42,18 +42,18 @@ module _ (E : List Operation) (B : ℕ → ℕ → Bool) where
   pub derived_ruled : Ruled E (Derived E B)
   derived_ruled = record {
     joins = λ x y z p q. Derived.joined p q;
-    by_a = λ l s c d p. Derived.rule-a c d p;
-    by_b = λ l s c p. Derived.rule-b c p;
-    by_c = λ l k x y c d p q r s. Derived.rule-c c d p q r s;
+    by_a = λ l s c d p. Derived.rule_a c d p;
+    by_b = λ l s c p. Derived.rule_b c p;
+    by_c = λ l k x y c d p q r s. Derived.rule_c c d p q r s;
   }
 
   -- it is the least such relation
   pub derived_least : (P : ℕ → ℕ → Type 0) → Ruled E P → ((x y : ℕ) → T (B x y) → P x y) → {x y : ℕ} → Derived E B x y → P x y
   derived_least P d base (Derived.given {a = x} {b = y} t) = base x y t
   derived_least P d base (Derived.joined {a = x} {b = y} {c = z} s t) = d.joins x y z (derived_least P d base s) (derived_least P d base t)
-  derived_least P d base (Derived.rule-a {l = l} {s = s} c e u) = d.by_a l s c e (derived_least P d base u)
-  derived_least P d base (Derived.rule-b {l = l} {s = s} c u) = d.by_b l s c (derived_least P d base u)
-  derived_least P d base (Derived.rule-c {l = l} {k = k} {a = x} {b = y} c e h i j m) =
+  derived_least P d base (Derived.rule_a {l = l} {s = s} c e u) = d.by_a l s c e (derived_least P d base u)
+  derived_least P d base (Derived.rule_b {l = l} {s = s} c u) = d.by_b l s c (derived_least P d base u)
+  derived_least P d base (Derived.rule_c {l = l} {k = k} {a = x} {b = y} c e h i j m) =
       d.by_c l k x y c e (derived_least P d base h) (derived_least P d base i) (derived_least P d base j) (derived_least P d base m)
 
 -- pairs that follow from one another have the same that follows

@@ -2,6 +2,7 @@
 //! The definitions stand in specs/, to be read in this order: Lists, Order, Serial, Case, Promises, Examples.
 //! They speak of operations and rule books as the pages Operations and Formed of the crate `execution` and Books of the crate `rulebook` define them.
 //! Each function below says one theorem.
+#![tactic(auto)]
 
 ghost use Rattle.theory.specs.Promises.{PromisesOfOrders, LawIsEnough, Promises, Sessions, Recording, Openings, OneRun, LeastIsTrue, SupposedIsTrue, SerialTest, OrdersStaySound, ChoicesFit};
 ghost use Rattle.theory.specs.Examples.{ExamplesHold};

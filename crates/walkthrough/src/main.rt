@@ -1,4 +1,6 @@
 //! One real task from beginning to end, told in plain words: a record of a run is read, looked at and judged.
+#![tactic(auto)]
+
 mod books;
 mod broken;
 mod orders;

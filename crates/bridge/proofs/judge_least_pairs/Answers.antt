@@ -1,4 +1,4 @@
-use Rattle.std.proofs.Common.{◌≡◌, take, refl, ap, ◌∙◌}
+use Rattle.std.proofs.Common.{take, refl, ap, ◌∙◌}
 use Rattle.execution.specs.Calls.{ops}
 use Rattle.rulebook.specs.Codes.{book_keeps}
 use Rattle.theory.specs.Order.{pairs}
@@ -11,8 +11,8 @@ pub returns-in-Some : goal.returns-in-Some
 returns-in-Some c =
     let x = c.in-Some.begun.execution in
     let st = c.in-Some.ensures.started in
-    let o = c.least-order.result in
-    counts Least c.args.bytes.now c.args.code c.pairs.result x c.in-Some.begun.opening st (rows_of x o) (c.least-order.ensures (local (book_keeps st.book) (ops x)) st.says) (c.pairs.ensures ∙ ap (λ n. pairs (take n o.rows)) c.len.ensures)
+    let o = c.least_order.result in
+    counts Least c.args.bytes.now c.args.code c.pairs.result x c.in-Some.begun.opening st (rows_of x o) (c.least_order.ensures (local (book_keeps st.book) (ops x)) st.says) (c.pairs.ensures ∙ ap (λ n. pairs (take n o.rows)) c.len.ensures)
 
 pub returns-in-None : goal.returns-in-None
 returns-in-None c = counts_none Least c.args.bytes.now c.args.code 4294967295 c.in-None.ensures.started refl

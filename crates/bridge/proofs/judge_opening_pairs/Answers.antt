@@ -1,4 +1,4 @@
-use Rattle.std.proofs.Common.{◌≡◌, take, refl, ap, ◌∙◌}
+use Rattle.std.proofs.Common.{take, refl, ap, ◌∙◌}
 use Rattle.theory.specs.Order.{pairs}
 use Rattle.theory.specs.Serial.{Opening}
 use Rattle.rules.specs.Claims.{rows_of}

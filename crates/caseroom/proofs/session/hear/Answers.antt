@@ -18,7 +18,7 @@ pub loop-i-preserved : goal.loop-i-preserved
 loop-i-preserved g c =
     let first = c.open-case.result.given in
     let s = c.loop-i.case in
-    let now = c.hear-one in
+    let now = c.hear_one in
     let inv = c.loop-i.invariant in
     let room : c.loop-i.i < length c.loop-i.answers = omega (arith, c.loop-i.auto.answers) in (
       now.ensures.same ∙ inv.0,

@@ -8,9 +8,9 @@ pub returns : goal.returns
 returns c =
     let g = c.args.given.now in
     let d = c.args.desk.now in
-    let r = c.what-if.result in
+    let r = c.what_if.result in
     record {
-      kept = same_desk d c.what-if.new.order _ _ _ c.what-if.ensures.kept;
+      kept = same_desk d c.what_if.new.order _ _ _ c.what_if.ensures.kept;
       found = subst (λ (x : ℕ). Found (events g) (model g d).order x c.args.b r) c.from.ensures
-          (subst (λ (y : ℕ). Found (events g) (model g d).order c.from.result y r) c.from-2.ensures c.what-if.ensures.supposed);
+          (subst (λ (y : ℕ). Found (events g) (model g d).order c.from.result y r) c.from-2.ensures c.what_if.ensures.supposed);
     }

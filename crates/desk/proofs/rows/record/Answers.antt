@@ -12,4 +12,4 @@ returns c =
     let most = few g in
     let full = o.full in
     let e : c.record.new.self.rows ≡ recorded c.args.a c.args.b o.rows = c.record.ensures.records ∙ ap₂ (λ a b. recorded a b o.rows) c.from.ensures c.from-2.ensures in
-    ap (take (length (events g))) e ∙ cut_recorded (length (events g)) c.args.a c.args.b o.rows (omega arith) c.requires.1
+    ap (take (length (events g))) e ∙ cut_recorded (length (events g)) c.args.a c.args.b o.rows (omega arith) c.requires.b_in_bounds

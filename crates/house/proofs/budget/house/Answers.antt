@@ -6,14 +6,14 @@ use Rattle.desk.specs.Model.{events, locally, at_first, model, state_of}
 use Rattle.house.proofs.Come.{turns_on}
 use Rattle.house.proofs.Ends.{not_open, same_state, not_both, nor_both}
 use Rattle.house.proofs.budget.house.Goals as goal
-use Rattle.house.proofs.budget.house.Goals.{else-loop-made-test, then-loop-made-test+in-default-state}
+use Rattle.house.proofs.budget.house.Goals.{else-loop-made-test, then-loop-made-test+in_default-state}
 
-pub returns-in-default : goal.returns-in-default
-returns-in-default c =
+pub returns-in_default : goal.returns-in_default
+returns-in_default c =
     let g = c.args.given.now in
     let d = c.args.desk.now in
     record {
-      heard = single (turned_away (house_ended (locally g) (events g) (model g d) c.args.budget (not_open d.state c.in-default.not-Open)));
+      heard = single (turned_away (house_ended (locally g) (events g) (model g d) c.args.budget (not_open d.state c.in_default.not-Open)));
       told = λ t s e. not_both CaseEnded (t, s) e;
       kept = λ e h. refl;
     }
@@ -41,7 +41,7 @@ returns c =
     let all : Turns (locally g) (events g) (model g a) k t (model g b) =
     elim c.loop-made-test.branch [
       | else-loop-made-test w ↦ let e : t ≡ k = omega (arith, w.loop-made-test.false, inv.0) in subst (λ j. Turns (locally g) (events g) (model g a) j t (model g b)) e inv.1
-      | then-loop-made-test+in-default-state w ↦ turns_left (locally g) (events g) k inv.1 (not_open b.state w.in-default-state.not-Open) inv.0
+      | then-loop-made-test+in_default-state w ↦ turns_left (locally g) (events g) k inv.1 (not_open b.state w.in_default-state.not-Open) inv.0
     ] in
     record {
       heard = housed (house_may (locally g) (events g) (model g a) k (ap state_of c.in-Open.is)) all;

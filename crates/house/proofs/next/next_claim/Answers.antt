@@ -6,9 +6,9 @@ use Rattle.house.proofs.next.next_claim.Goals as goal
 pub returns-in-Some : goal.returns-in-Some
 returns-in-Some c =
     let d = c.args.desk.now in
-    claim_next c.args.given.now d (ap state_of c.requires.0) c.in-Some.claim (no_cycle d.order.rows c.len.ensures c.cyclic.ensures c.if-cyclic.false) c.in-Some.ensures
+    claim_next c.args.given.now d (ap state_of c.requires.still_open) c.in-Some.claim (no_cycle d.order.rows c.len.ensures c.cyclic.ensures c.if-cyclic.false) c.in-Some.ensures
 
 pub returns : goal.returns
 returns c =
     let d = c.args.desk.now in
-    split_next c.args.given.now d (ap state_of c.requires.0) c.first-split.result (no_cycle d.order.rows c.len.ensures c.cyclic.ensures c.if-cyclic.false) c.in-default.ensures c.first-split.ensures
+    split_next c.args.given.now d (ap state_of c.requires.still_open) c.first_split.result (no_cycle d.order.rows c.len.ensures c.cyclic.ensures c.if-cyclic.false) c.in_default.ensures c.first_split.ensures

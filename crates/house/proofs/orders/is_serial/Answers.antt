@@ -6,4 +6,4 @@ use Rattle.house.proofs.orders.is_serial.Goals as goal
 pub returns : goal.returns
 returns c =
     let g = c.args.given.now in
-    same_test g c.args.order.now c.is-serialization.result (c.is-serialization.ensures (locally g) (lawful g) c.opening-order-opening.ensures.says)
+    same_test g c.args.order.now c.is_serialization.result (c.is_serialization.ensures (locally g) (lawful g) c.opening_order-opening.ensures.says)

@@ -9,10 +9,10 @@ use Rattle.house.proofs.Come.{settled}
 use Rattle.house.proofs.Nexts.{next_granted, not_turned_away, order_next, order_stands}
 use Rattle.house.proofs.turning.turn.Goals as goal
 
-pub next-claim-requires : goal.next-claim-requires
-next-claim-requires c =
+pub next_claim-requires : goal.next_claim-requires
+next_claim-requires c =
     let g = c.args.given.now in
-    (c.requires.open, settled (locally g) (events g) (at_first g) (model g c.args.desk.now) c.requires.come)
+    record { still_open = c.requires.open; settled = settled (locally g) (events g) (at_first g) (model g c.args.desk.now) c.requires.come }
 
 pub claim-requires : goal.claim-requires
 claim-requires c =
@@ -30,7 +30,7 @@ unreachable-requires c =
 pub unreachable-requires-in-Err-propose : goal.unreachable-requires-in-Err-propose
 unreachable-requires-in-Err-propose c =
     order_stands c.args.given.now c.args.desk.now (ap state_of c.requires.open) c.in-None.ensures
-    c.numbers.result.now (arranged c.lowest-first-lowest.result) c.numbers.ensures c.lowest-first-lowest.ensures c.propose.new.desk
+    c.numbers.result.now (arranged c.lowest_first-lowest.result) c.numbers.ensures c.lowest_first-lowest.ensures c.propose.new.desk
     c.requires.come c.in-Err-propose.ensures.replies
 
 pub returns-in-Ok : goal.returns-in-Ok
@@ -42,5 +42,5 @@ returns-in-Ok c =
 pub returns-in-Ok-propose : goal.returns-in-Ok-propose
 returns-in-Ok-propose c =
     order_next c.args.given.now c.args.desk.now (ap state_of c.requires.open) c.in-None.ensures
-    c.numbers.result.now (arranged c.lowest-first-lowest.result) c.numbers.ensures c.lowest-first-lowest.ensures c.propose.new.desk
+    c.numbers.result.now (arranged c.lowest_first-lowest.result) c.numbers.ensures c.lowest_first-lowest.ensures c.propose.new.desk
     c.in-Ok-propose.ensures.replies

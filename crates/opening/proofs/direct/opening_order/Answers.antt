@@ -11,7 +11,7 @@ use Rattle.opening.specs.Orders.{rows_in}
 use Rattle.opening.proofs.Room.{few, rows_fit, rows_long}
 use Rattle.opening.proofs.Recorded.{none_before, Above, Along, step_yes, step_no, row_done, says_settled}
 use Rattle.opening.proofs.direct.opening_order.Goals as goal
-use Rattle.opening.proofs.direct.opening_order.Goals.{then-is-direct, else-is-direct}
+use Rattle.opening.proofs.direct.opening_order.Goals.{then-is_direct, else-is_direct}
 
 pub loop-a-init : goal.loop-a-init
 loop-a-init c =
@@ -40,9 +40,9 @@ loop-b-preserved c =
     let m = c.len-n.ensures in
     let a_in : a < n = omega arith in
     let b-in : b < n = omega arith in
-    elim c.if-is-direct.branch [
-      | then-is-direct w ↦ step_yes L E a b R (rows_in e c.if-is-direct.order) (ap (λ (x : Order). rows_in e x) w.order-is ∙ ap (take n) w.record.ensures.records ∙ cut_recorded n a b o.rows (rows_fit e o) b-in) a_in w.if-is-direct.ensures inv.0 inv.1 inv.2
-      | else-is-direct w ↦ subst (λ (x : Order). Built L E (rows_in e x) × Above L E a (rows_in e x) × Along L E a (b + 1) (rows_in e x)) (sym w.order-is) (inv.0, inv.1, step_no L E a b R w.if-is-direct.ensures inv.2)
+    elim c.if-is_direct.branch [
+      | then-is_direct w ↦ step_yes L E a b R (rows_in e c.if-is_direct.order) (ap (λ (x : Order). rows_in e x) w.order-is ∙ ap (take n) w.record.ensures.records ∙ cut_recorded n a b o.rows (rows_fit e o) b-in) a_in w.if-is_direct.ensures inv.0 inv.1 inv.2
+      | else-is_direct w ↦ subst (λ (x : Order). Built L E (rows_in e x) × Above L E a (rows_in e x) × Along L E a (b + 1) (rows_in e x)) (sym w.order-is) (inv.0, inv.1, step_no L E a b R w.if-is_direct.ensures inv.2)
     ]
 
 pub loop-a-preserved : goal.loop-a-preserved

@@ -17,11 +17,11 @@ loop-a-preserved g c =
     let f = local (g.B.RuleBook.keeps c.args.book.now) (ops e) in
     let rows = c.loop-a.rows in
     let a = c.loop-a.a in
-    let row = c.local-row.result in
+    let row = c.local_row.result in
     let inv = c.loop-a.invariant in
     let h = few e in
     let long = inv.0 in
-    (length-set rows a row ∙ long, rows_more f rows a row (omega arith) inv.1 c.local-row.ensures, rest_more rows a row inv.2)
+    (length-set rows a row ∙ long, rows_more f rows a row (omega arith) inv.1 c.local_row.ensures, rest_more rows a row inv.2)
 
 pub returns : goal.returns
 returns g c =

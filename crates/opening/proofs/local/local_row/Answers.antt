@@ -6,7 +6,7 @@ use Rattle.theory.specs.Serial.{local}
 use Rattle.opening.proofs.Room.{few}
 use Rattle.opening.proofs.Kept.{row_yes, row_no, row_end, kept_here}
 use Rattle.opening.proofs.local.local_row.Goals as goal
-use Rattle.opening.proofs.local.local_row.Goals.{then-is-local, else-is-local}
+use Rattle.opening.proofs.local.local_row.Goals.{then-is_local, else-is_local}
 
 pub loop-b-preserved : goal.loop-b-preserved
 loop-b-preserved g c =
@@ -15,9 +15,9 @@ loop-b-preserved g c =
     let b = c.loop-b.b in
     let row = c.loop-b.row in
     let h = few e in
-    elim c.if-is-local.branch [
-      | then-is-local w ↦ row_yes f row b c.loop-b.invariant c.if-is-local.row (w.row-is ∙ ap (bit_or row) (one_shl b 32 (omega arith))) w.if-is-local.ensures
-      | else-is-local w ↦ row_no f row b c.loop-b.invariant c.if-is-local.row w.row-is w.if-is-local.ensures
+    elim c.if-is_local.branch [
+      | then-is_local w ↦ row_yes f row b c.loop-b.invariant c.if-is_local.row (w.row-is ∙ ap (bit_or row) (one_shl b 32 (omega arith))) w.if-is_local.ensures
+      | else-is_local w ↦ row_no f row b c.loop-b.invariant c.if-is_local.row w.row-is w.if-is_local.ensures
     ]
 
 pub returns : goal.returns

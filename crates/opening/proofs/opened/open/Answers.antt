@@ -9,8 +9,8 @@ pub returns : goal.returns
 returns g c =
     let e = c.args.execution.now in
     let keeps = g.B.RuleBook.keeps c.args.book.now in
-    let l = c.local-order-local in
-    let o = c.opening-order-opening in
+    let l = c.local_order-local in
+    let o = c.opening_order-opening in
     record {
       kept = l.ensures.kept;
       lawful = l.ensures.lawful;

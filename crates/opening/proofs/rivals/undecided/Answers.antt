@@ -9,15 +9,15 @@ use Rattle.opening.proofs.Room.{few}
 use Rattle.opening.proofs.Counted.{sum_upto}
 use Rattle.opening.proofs.rivals.undecided.Goals as goal
 
-pub overflow-add-count : goal.overflow-add-count
-overflow-add-count c = let h = few c.args.execution.now in omega arith
+pub overflow_add-count : goal.overflow_add-count
+overflow_add-count c = let h = few c.args.execution.now in omega arith
 
 pub loop-s-preserved : goal.loop-s-preserved
 loop-s-preserved c =
     let e = c.args.execution.now in
     let row : ℕ → ℕ = λ s. count_by (undecided_pair (ops e) (rows_in e c.args.order.now) s) (range_with_len 0 (length (ops e))) in
     let inv = c.loop-s.invariant in
-    let k = c.undecided-with-count.ensures in
+    let k = c.undecided_with-count.ensures in
     (omega arith, omega (arith, sum_upto row c.loop-s.s))
 
 pub returns : goal.returns

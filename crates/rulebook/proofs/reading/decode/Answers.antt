@@ -1,10 +1,10 @@
-use Rattle.std.proofs.Common.{◌≡◌, ℕ, ◌+◌, ◌<◌, ◌≤◌, Bool, true, false, cond, ◌&&◌, leb, List, length, get_or, take, drop, Ok, Err, Result, sym, refl, ap, ◌∙◌, arith, length-set}
+use Rattle.std.proofs.Common.{◌≡◌, ℕ, ◌+◌, ◌<◌, ◌≤◌, Bool, true, false, cond, ◌&&◌, leb, List, length, get_or, drop, Ok, Err, sym, refl, ap, ◌∙◌, arith, length-set}
 use Rattle.std.proofs.lemmas.List.{take_all, take_more_set, map_more, at_drop_more, at_drop_all}
 use Rattle.std.proofs.lemmas.Result.{err_from_is_err_and}
 use Rattle.field.specs.declared.refusal.Refusal.{Refusal}
 use Rattle.rulebook.specs.declared.entry.Entry.{Entry}
-use Rattle.rulebook.specs.Tables.{entry_of, entry_by_code}
-use Rattle.rulebook.specs.Writing.{known, entries_of, decoded}
+use Rattle.rulebook.specs.Tables.{entry_of}
+use Rattle.rulebook.specs.Writing.{known, entries_of}
 use Rattle.rulebook.proofs.reading.decode.Goals as goal
 
 -- what a code that is known and one that is not tell of the test
@@ -20,13 +20,13 @@ failed false x u e h = (refl, cc)
 next_known : (ns : List ℕ) (i : ℕ) → i < length ns → known (drop i ns) ≡ (leb (get_or ns i 0) 2 && known (drop (i + 1) ns))
 next_known ns i h = at_drop_more known ns i 0 h
 
-pub returns-in-err-entries : goal.returns-in-err-entries
-returns-in-err-entries c =
+pub returns-in_err-entries : goal.returns-in_err-entries
+returns-in_err-entries c =
     let s = c.args.codes.now in
     let i = c.loop-i.i in
-    let f = failed (leb (get_or s i 0) 2) (entry_of (get_or s i 0)) _ _ (sym c.by-code.ensures ∙ c.in-err-entries.was) in
+    let f = failed (leb (get_or s i 0) 2) (entry_of (get_or s i 0)) _ _ (sym c.by_code.ensures ∙ c.in_err-entries.was) in
     let k : known s ≡ false = sym c.loop-i.invariant.1 ∙ next_known s i c.loop-i-test.true ∙ ap (λ b. b && known (drop (i + 1) s)) f.0 in
-    let p = err_from_is_err_and c.from-residual.result c.from-residual.ensures.1 in
+    let p = err_from_is_err_and c.from_residual.result c.from_residual.ensures.1 in
     rw (p.1, p.2, k, f.1)
 
 pub loop-i-preserved : goal.loop-i-preserved
@@ -34,8 +34,8 @@ loop-i-preserved c =
     let s = c.args.codes.now in
     let i = c.loop-i.i in
     let es = c.loop-i.entries in
-    let x = c.in-ok-entries.field-0 in
-    let f = passed (leb (get_or s i 0) 2) (entry_of (get_or s i 0)) x _ (sym c.by-code.ensures ∙ c.in-ok-entries.was) in
+    let x = c.in_ok-entries.field-0 in
+    let f = passed (leb (get_or s i 0) 2) (entry_of (get_or s i 0)) x _ (sym c.by_code.ensures ∙ c.in_ok-entries.was) in
     let lt : i < length es = omega (arith, c.loop-i.invariant.0) in
     let step : known (drop i s) ≡ known (drop (i + 1) s) = next_known s i c.loop-i-test.true ∙ ap (λ b. b && known (drop (i + 1) s)) f.0 in (
       length-set es i x ∙ c.loop-i.invariant.0,

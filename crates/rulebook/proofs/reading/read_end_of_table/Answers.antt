@@ -1,4 +1,4 @@
-use Rattle.std.proofs.Common.{◌≡◌, ℕ, ◌+◌, ◌-◌, length, take, drop, IfErr, Ok, Err, Result, sym, ap, ◌∙◌, subst, zero-add}
+use Rattle.std.proofs.Common.{◌≡◌, ℕ, ◌+◌, ◌-◌, length, take, drop, IfErr, Ok, Err, Result, ap, ◌∙◌, zero-add}
 use Rattle.std.proofs.lemmas.List.{take_rest}
 use Rattle.field.specs.declared.fault.Fault.{Fault}
 use Rattle.field.specs.Faults.{moved}
@@ -13,6 +13,6 @@ pub returns : goal.returns
 returns c =
     let all : take (length c.args.bytes.now - 19) (drop 19 c.args.bytes.now) ≡ drop 19 c.args.bytes.now = take_rest c.args.bytes.now 19 in
     record {
-      ended = c.within.ensures ∙ ap (moved 19) (c.read-end.ensures.ended ∙ ap ended all);
-      there = rw c.within.ensures (moved_there 19 c.read-end.result c.read-end.ensures.here);
+      ended = c.within.ensures ∙ ap (moved 19) (c.read_end.ensures.ended ∙ ap ended all);
+      there = rw c.within.ensures (moved_there 19 c.read_end.result c.read_end.ensures.here);
     }

@@ -1,12 +1,12 @@
-use Rattle.std.proofs.Common.{◌≡◌, rules}
 use Rattle.rules.proofs.Turns.{begun, fits, again}
 use Rattle.rules.proofs.closing.record_first.Goals as goal
 
-pub record-claim-requires : goal.record-claim-requires
-record-claim-requires c =
+pub record_claim-requires : goal.record_claim-requires
+record_claim-requires c =
     let e = c.args.execution.now in
     let o = c.args.order.now in
-    fits e o o (begun e o c.requires) c.in-Some.claim c.in-Some.ensures
+    let fit = fits e o o (begun e o c.requires) c.in-Some.claim c.in-Some.ensures in
+    record { first_in_bounds = fit.0; second_in_bounds = fit.1 }
 
 pub returns-in-Some : goal.returns-in-Some
 returns-in-Some c =
@@ -14,6 +14,6 @@ returns-in-Some c =
     let o = c.args.order.now in
     record {
       first = c.in-Some.ensures;
-      recorded = c.record-claim.ensures;
-      settled = (again e o o (begun e o c.requires) c.in-Some.claim c.in-Some.ensures c.record-claim.new.order c.record-claim.ensures).between.settled;
+      recorded = c.record_claim.ensures;
+      settled = (again e o o (begun e o c.requires) c.in-Some.claim c.in-Some.ensures c.record_claim.new.order c.record_claim.ensures).between.settled;
     }

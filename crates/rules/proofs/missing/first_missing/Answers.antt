@@ -7,4 +7,4 @@ use Rattle.rules.proofs.missing.first_missing.Goals as goal
 pub returns : goal.returns
 returns c =
     let e = c.args.execution.now in
-    first_of_three (lacks (ops e) (rows_of e c.args.order.now)) (claims_a (ops e)) (claims_b (ops e)) (claims_c (ops e)) (called c.rule-by-rule.result) c.rule-by-rule.ensures
+    first_of_three (lacks (ops e) (rows_of e c.args.order.now)) (claims_a (ops e)) (claims_b (ops e)) (claims_c (ops e)) (called c.rule_by_rule.result) c.rule_by_rule.ensures

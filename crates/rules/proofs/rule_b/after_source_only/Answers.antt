@@ -1,4 +1,4 @@
-use Rattle.std.proofs.Common.{◌≡◌, not, ◌&&◌, ◌∙◌, ap₂, arith}
+use Rattle.std.proofs.Common.{not, ◌&&◌, ◌∙◌, ap₂, arith}
 use Rattle.order.specs.Bits.{bit}
 use Rattle.order.proofs.Bitwise.{bit_less}
 use Rattle.rules.proofs.rule_b.after_source_only.Goals as goal

@@ -1,5 +1,4 @@
-use Rattle.std.proofs.Common.{◌≡◌, ◌≤◌, length, arith}
-use Rattle.execution.specs.Calls.{ops}
+use Rattle.std.proofs.Common.{arith}
 use Rattle.rules.proofs.Executions.{few}
 use Rattle.rules.proofs.size.size.Goals as goal
 

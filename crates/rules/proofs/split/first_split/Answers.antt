@@ -1,4 +1,4 @@
-use Rattle.std.proofs.Common.{◌≡◌, Bool, length, sym, ap, ◌∙◌, arith}
+use Rattle.std.proofs.Common.{Bool, length, sym, ap, ◌∙◌, arith}
 use Rattle.execution.specs.declared.execution.Execution.{Execution}
 use Rattle.execution.specs.Calls.{ops}
 use Rattle.order.specs.declared.order.Order.{Order}
@@ -19,7 +19,7 @@ loop-t-preserved c =
     let e = c.args.execution.now in
     let o = c.args.order.now in (
       c.loop-t.invariant.0,
-      passed_more (test e o) (of_two c.scan.s) c.loop-t.t c.loop-t.invariant.1 (two_fail (test e o) c.scan.s c.loop-t.t (omega arith) c.if-is-undecided.ensures),
+      passed_more (test e o) (of_two c.scan.s) c.loop-t.t c.loop-t.invariant.1 (two_fail (test e o) c.scan.s c.loop-t.t (omega arith) c.if-is_undecided.ensures),
       c.loop-t.invariant.2,
     )
 
@@ -37,11 +37,11 @@ returns-after-scan c =
     let n = c.size-n.ensures.all in
     ap called c.scan.invariant.1 ∙ sym (all_passed (test e o) (of_store (ops e)) (length (ops e)) c.scan.s (omega arith) c.scan.invariant.0)
 
-pub returns-then-is-undecided : goal.returns-then-is-undecided
-returns-then-is-undecided c =
+pub returns-then-is_undecided : goal.returns-then-is_undecided
+returns-then-is_undecided c =
     let e = c.args.execution.now in
     let o = c.args.order.now in
     let n = c.size-n.ensures.all in
     let q = split c.scan.s c.loop-t.t in
     sym (left_at (test e o) (of_store (ops e)) (length (ops e)) c.scan.s q (omega arith) c.loop-t.invariant.0
-    (left_at (test e o) (of_two c.scan.s) (length (ops e)) c.loop-t.t q (omega arith) c.loop-t.invariant.1 (two_pass (test e o) c.scan.s c.loop-t.t (omega arith) c.if-is-undecided.ensures)))
+    (left_at (test e o) (of_two c.scan.s) (length (ops e)) c.loop-t.t q (omega arith) c.loop-t.invariant.1 (two_pass (test e o) c.scan.s c.loop-t.t (omega arith) c.if-is_undecided.ensures)))

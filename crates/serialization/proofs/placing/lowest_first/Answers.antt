@@ -16,8 +16,8 @@ loop-arrangement-preserved c =
     state_more (ops c.args.execution.now) c.args.order.now.rows here.count c.loop-arrangement.placed (arranged here) c.loop-arrangement.invariant c.len-n.result c.len-n.ensures
     (omega arith) c.in-Some.next (omega arith) c.in-Some.ensures.first c.push.new.self.count c.push.ensures.count (arranged c.push.new.self) c.push.ensures.more
 
-pub returns-in-default : goal.returns-in-default
-returns-in-default c =
+pub returns-in_default : goal.returns-in_default
+returns-in_default c =
     let here = c.loop-arrangement.arrangement in
     state_stuck (ops c.args.execution.now) c.args.order.now.rows here.count c.loop-arrangement.placed (arranged here) c.loop-arrangement.invariant c.len-n.result c.len-n.ensures
-    c.in-default.ensures.first
+    c.in_default.ensures.first

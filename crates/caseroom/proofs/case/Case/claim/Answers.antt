@@ -14,12 +14,12 @@ claim-requires c =
     let g = s.given in
     fit (locally g) (events g) (at_first g) (model g s.desk) s.reached
 
-pub invariant-of-self : goal.invariant-of-self
-invariant-of-self c =
+pub invariant_of-self : goal.invariant_of-self
+invariant_of-self c =
     let s = c.args.self.now in
     let g = s.given in
     let post = c.claim.new.self in
-    (goes_on g s.desk post (single (replies (locally g) g c.args.claim s.desk c.claim.result post c.claim.ensures)) s.reached, tt)
+    record { reached = goes_on g s.desk post (single (replies (locally g) g c.args.claim s.desk c.claim.result post c.claim.ensures)) s.reached }
 
 pub returns : goal.returns
 returns c =

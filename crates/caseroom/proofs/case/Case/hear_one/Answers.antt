@@ -25,8 +25,8 @@ pub returns-in-WhatIf : goal.returns-in-WhatIf
 returns-in-WhatIf c =
     let s = c.args.self.now in
     record {
-      heard = heard_as s.given s.desk c.what-if.new.self.desk (ap heard c.in-WhatIf.is) c.supposed.ensures (single c.what-if.ensures.replies);
-      same = ap (λ (k : Case). k.given) c.what-if.ensures.kept;
+      heard = heard_as s.given s.desk c.what_if.new.self.desk (ap heard c.in-WhatIf.is) c.supposed.ensures (single c.what_if.ensures.replies);
+      same = ap (λ (k : Case). k.given) c.what_if.ensures.kept;
     }
 
 pub returns-in-Least : goal.returns-in-Least

@@ -4,10 +4,10 @@ use Rattle.caseroom.proofs.Reach.{goes_on}
 use Rattle.caseroom.proofs.Same.{same_case}
 use Rattle.caseroom.proofs.case.Case.order.Goals as goal
 
-pub invariant-of-self : goal.invariant-of-self
-invariant-of-self c =
+pub invariant_of-self : goal.invariant_of-self
+invariant_of-self c =
     let s = c.args.self.now in
-    (goes_on s.given s.desk c.propose.new.desk (single c.propose.ensures.replies) s.reached, tt)
+    record { reached = goes_on s.given s.desk c.propose.new.desk (single c.propose.ensures.replies) s.reached }
 
 pub returns : goal.returns
 returns c =

@@ -13,11 +13,11 @@ returns-in-Serial c =
     let g = s.given in
     let n = length (events g) in
     let pre = c.args.out.now in
-    let put = c.copy-from-slice.new.self in
+    let put = c.copy_from_slice.new.self in
     let all = c.len-n.ensures in
     let space = s.desk.space in
     let most = few g.execution in
     let room : ltb (length pre) n ≡ false = search rules in
-    let same = c.copy-from-slice.ensures.after ∙ ap (λ (k : ℕ). take k s.desk.admitted) all in
+    let same = c.copy_from_slice.ensures.after ∙ ap (λ (k : ℕ). take k s.desk.admitted) all in
     subst (λ (k : ℕ). WrittenOut n (order_out (events g) (model g s.desk) (length pre)) pre (Ok k) (put ++ drop k pre)) (sym all)
     (serial_written n (take n s.desk.admitted) pre put (length-take-le n s.desk.admitted (omega arith)) same (ltb (length pre) n) room s.desk.state c.in-Serial.is)

@@ -7,4 +7,4 @@ pub returns : goal.returns
 returns c =
     let g = c.args.given.now in
     let d = c.args.self.now in
-    same_model c.record.ensures (stacked_push (length (events g)) d.choices _ d.depth (search rules)) (ap state_of c.requires.3) (ap (λ s. witness_of s (take (length (events g)) d.admitted)) c.requires.3)
+    same_model c.record.ensures (stacked_push (length (events g)) d.choices _ d.depth (search rules)) (ap state_of c.requires.still_open) (ap (λ s. witness_of s (take (length (events g)) d.admitted)) c.requires.still_open)

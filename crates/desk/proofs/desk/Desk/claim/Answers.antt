@@ -12,4 +12,9 @@ choose-requires c =
     let k = c.requires.room c.in-Open-Split.s c.in-Open-Split.t fresh in
     let deep = d.deep in
     let room = d.room in
-    (omega (arith, length_stacked (length (events g)) d.choices d.depth (omega arith)), search rules, search rules, search rules)
+    record {
+      room = omega (arith, length_stacked (length (events g)) d.choices d.depth (omega arith));
+      one_in_bounds = search rules;
+      other_in_bounds = search rules;
+      still_open = search rules;
+    }

@@ -1,11 +1,11 @@
-use Rattle.std.proofs.Common.{◌≡◌, ◌-◌, ◌<◌, ◌≤◌, [], length, take, sym, refl, ap, ◌∙◌, arith, rules}
+use Rattle.std.proofs.Common.{◌≡◌, ◌≤◌, [], length, take, sym, refl, ap, ◌∙◌, arith, rules}
 use Rattle.theory.specs.Case.{undone}
 use Rattle.desk.specs.Model.{events, stacked, model, state_of, witness_of}
 use Rattle.desk.proofs.Stack.{stacked_turn, same_model, undone_first, undone_second, named_pop}
 use Rattle.desk.proofs.desk.Desk.undo.Goals as goal
 
 pub loop-self-init : goal.loop-self-init
-loop-self-init c = (c.requires.1, c.requires.0.within, refl)
+loop-self-init c = (c.requires.still_open, c.requires.fit.within, refl)
 
 pub record-requires : goal.record-requires
 record-requires c =
@@ -13,7 +13,7 @@ record-requires c =
     let d = c.loop-self.self in
     let most : d.depth ≤ length d.choices = search rules in
     let h = named_pop (length (events g)) d.order.rows d.choices c.index-self-latest.result d.depth c.loop-self-test.true most (length (events g)) c.loop-self.invariant.1 in
-    (h.0.1, h.0.0)
+    record { a_in_bounds = h.0.1; b_in_bounds = h.0.0 }
 
 pub returns-in-First : goal.returns-in-First
 returns-in-First c =
@@ -38,7 +38,7 @@ loop-self-preserved c =
     let h = named_pop n d.order.rows d.choices x d.depth c.loop-self-test.true most n inv.1 in (
       inv.0,
       h.1,
-      sym (undone_second n (model g d).order d.choices x d.depth c.loop-self-test.true most c.in-default.is) ∙ inv.2,
+      sym (undone_second n (model g d).order d.choices x d.depth c.loop-self-test.true most c.in_default.is) ∙ inv.2,
     )
 
 pub returns : goal.returns

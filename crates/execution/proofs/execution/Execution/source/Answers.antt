@@ -1,4 +1,4 @@
-use Rattle.std.proofs.Common.{◌≡◌, ◌<◌, length, sym, ap, ◌∙◌, subst}
+use Rattle.std.proofs.Common.{◌<◌, length, sym, ◌∙◌, subst}
 use Rattle.execution.specs.Calls.{ops}
 use Rattle.execution.proofs.Asked.{load_found}
 use Rattle.execution.proofs.execution.Execution.source.Goals as goal

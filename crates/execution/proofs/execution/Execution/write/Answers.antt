@@ -1,4 +1,4 @@
-use Rattle.std.proofs.Common.{◌≡◌, ◌+◌, ◌*◌, length, take, drop, sym, refl, ap, ◌∙◌, arith}
+use Rattle.std.proofs.Common.{◌≡◌, ◌+◌, ◌*◌, length, take, ap, ◌∙◌, arith}
 use Rattle.std.proofs.lemmas.List.{take_all}
 use Rattle.execution.specs.Writing.{writing}
 use Rattle.execution.specs.Calls.{ops}
@@ -11,8 +11,8 @@ loop-number-preserved c =
     let e = c.args.self.now in
     let k = c.loop-number.number in
     let l : length (ops e) ≡ e.listing.count = count_is e.listing in (
-      write_more (ops e) c.loop-number.out c.put-operation.new.out k c.at.result (omega arith) c.at.ensures c.loop-number.invariant.0 c.put-operation.ensures.front,
-      drop_further c.put-operation.new.out c.loop-number.out (4 + 9 * k + 9) (4 + 9 * (k + 1)) (omega arith) c.put-operation.ensures.rest ∙ drop_further c.loop-number.out c.put-edition.new.out (4 + 9 * k) (4 + 9 * (k + 1)) (omega arith) c.loop-number.invariant.1,
+      write_more (ops e) c.loop-number.out c.put_operation.new.out k c.at.result (omega arith) c.at.ensures c.loop-number.invariant.0 c.put_operation.ensures.front,
+      drop_further c.put_operation.new.out c.loop-number.out (4 + 9 * k + 9) (4 + 9 * (k + 1)) (omega arith) c.put_operation.ensures.rest ∙ drop_further c.loop-number.out c.put_edition.new.out (4 + 9 * k) (4 + 9 * (k + 1)) (omega arith) c.loop-number.invariant.1,
     )
 
 pub returns : goal.returns
@@ -28,6 +28,6 @@ returns c =
         omega arith,
         omega arith,
         ap (λ v. take (4 + 9 * v) c.loop-number.out) same ∙ c.loop-number.invariant.0 ∙ ap writing (take_all k (ops e) (omega arith)),
-        drop_further c.loop-number.out c.put-edition.new.out (4 + 9 * k) (4 + 9 * n) (omega arith) c.loop-number.invariant.1 ∙ drop_further c.put-edition.new.out c.args.out.now 4 (4 + 9 * n) (omega arith) c.put-edition.ensures.rest,
+        drop_further c.loop-number.out c.put_edition.new.out (4 + 9 * k) (4 + 9 * n) (omega arith) c.loop-number.invariant.1 ∙ drop_further c.put_edition.new.out c.args.out.now 4 (4 + 9 * n) (omega arith) c.put_edition.ensures.rest,
       );
     }

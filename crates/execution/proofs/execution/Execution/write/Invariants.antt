@@ -1,4 +1,4 @@
-use Rattle.std.proofs.Common.{◌≡◌, ◌+◌, ◌*◌, length, take, drop}
+use Rattle.std.proofs.Common.{◌≡◌, ◌+◌, ◌*◌, take, drop}
 use Rattle.execution.specs.Writing.{writing}
 use Rattle.execution.specs.Calls.{ops}
 use Rattle.execution.proofs.execution.Execution.write.Given as goal

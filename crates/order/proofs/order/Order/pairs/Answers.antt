@@ -5,8 +5,8 @@ use Rattle.std.proofs.lemmas.List.Sums.{sum_by_more}
 use Rattle.theory.specs.Order.{pairs}
 use Rattle.order.proofs.order.Order.pairs.Goals as goal
 
-pub overflow-add-count : goal.overflow-add-count
-overflow-add-count c =
+pub overflow_add-count : goal.overflow_add-count
+overflow_add-count c =
     let small : ones (get_or (take c.args.n c.args.self.now.rows) c.loop-row.row-index 0) ≤ 32 = ones-le 32 _ (search rules) in
     omega arith
 
