@@ -1,6 +1,6 @@
 -- What a claim does to a desk, on both ways out, and what it can count on.
 use Rattle.std.specs.Prelude.{◌≡◌, ℕ, ◌<◌, List, length, Some, None, Ok, Err, Option, Result}
-use Rattle.std.specs.List.{AllByRecursion as All}
+use Rattle.std.specs.List.{AllByRecursion}
 use Rattle.field.specs.declared.refusal.Refusal.{Refusal}
 use Rattle.execution.specs.declared.operation.Operation.{Operation}
 use Rattle.theory.specs.Case as theory
@@ -27,7 +27,7 @@ answer_of (Err e) = refused e
 
 -- the choices are between operations
 abbrev pub Named : ℕ → List theory.Choice → Type 0
-Named n cs = All (λ (c : theory.Choice). (c.one < n) × (c.other < n)) cs
+Named n cs = AllByRecursion (λ (c : theory.Choice). (c.one < n) × (c.other < n)) cs
 
 -- what a claim can count on: the choices that stand are between operations, and for a split that is not refused there is room
 pub record Fit (E : List Operation) (M : Model) : Type 0 where

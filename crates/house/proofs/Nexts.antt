@@ -1,6 +1,6 @@
 -- The house's next call, and that it is not refused.
 use Rattle.std.proofs.Common.{◌≡◌, ℕ, Bool, false, List, [], ◌∷◌, take, Some, None, Err, Option, sym, ◌∙◌, subst, arith}
-use Rattle.std.specs.List.{AllByRecursion as All}
+use Rattle.std.specs.List.{AllByRecursion}
 use Rattle.field.specs.declared.refusal.Refusal.{Refusal}
 use Rattle.execution.specs.declared.operation.Operation.{Operation}
 use Rattle.theory.specs.Lists.{first_by}
@@ -18,7 +18,7 @@ use Rattle.desk.specs.Judged.{By}
 use Rattle.house.specs.Turns.{Come, Next, Turned}
 use Rattle.house.proofs.Come.{last_stands}
 
-anything : {A : Type 0} (xs : List A) → All (λ (x : A). Unit {0}) xs
+anything : {A : Type 0} (xs : List A) → AllByRecursion (λ (x : A). Unit {0}) xs
 anything [] = tt
 anything (x ∷ xs) = (tt, anything xs)
 

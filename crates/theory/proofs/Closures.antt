@@ -1,6 +1,6 @@
 -- Every execution has an opening order: the premise of the promises can be met.
 use Rattle.std.proofs.Common.{◌≡◌, ℕ, ◌<◌, Bool, cond, T, List, [], ◌∷◌, map, length, get_or, sym, refl, ◌∙◌, subst, inl, inr, arith}
-use Rattle.std.specs.List.{AllByRecursion as All, range_with_len}
+use Rattle.std.specs.List.{AllByRecursion, range_with_len}
 use Rattle.std.proofs.ByRecursion.{All-weaker}
 use Rattle.execution.specs.declared.operation.Operation.{Operation}
 use Rattle.execution.specs.Operations.{saw}
@@ -69,11 +69,11 @@ module _ (L : ℕ → ℕ → Bool) (E : List Operation) where
       let m : mark 0 y ≡ 1 = rw none at (marked (closure n []) x y t) in
       omega (arith, mark_zero y)
 
-  closure_built : (ps : List (ℕ × ℕ)) → All (λ p. T (direct L E p.0 p.1)) ps → Built L E (closure n ps)
+  closure_built : (ps : List (ℕ × ℕ)) → AllByRecursion (λ p. T (direct L E p.0 p.1)) ps → Built L E (closure n ps)
   closure_built [] a = built_none L E (closure n []) (length_upto (λ _. 0) 0 n) closure_none
   closure_built (p ∷ ps) a = built_more L E (closure n ps) p.0 p.1 (closure_built ps a.1) a.0
 
-  closure_has : (ps : List (ℕ × ℕ)) → All (λ p. T (direct L E p.0 p.1)) ps → All (λ p. p.0 < n) ps → All (λ p. T (before (closure n ps) p.0 p.1)) ps
+  closure_has : (ps : List (ℕ × ℕ)) → AllByRecursion (λ p. T (direct L E p.0 p.1)) ps → AllByRecursion (λ p. p.0 < n) ps → AllByRecursion (λ p. T (before (closure n ps) p.0 p.1)) ps
   closure_has [] d a = tt
   closure_has (p ∷ ps) d a =
       let e = (closure_built ps d.1).rows in
@@ -83,11 +83,11 @@ module _ (L : ℕ → ℕ → Bool) (E : List Operation) where
   abbrev pub opening_pairs : List (ℕ × ℕ)
   opening_pairs = over n (λ a. over n (λ b. cond (direct L E a b) ((a, b) ∷ []) []))
 
-  all_pairs : (P : ℕ × ℕ → Type 0) → ((a b : ℕ) → a < n → T (direct L E a b) → P (a, b)) → All P opening_pairs
-  all_pairs P f = all_over n P _ (λ a h. all_over n P _ (λ b _. cond_either (All P) (direct L E a b) ((a, b) ∷ []) [] (λ t. (f a b h t, tt)) (λ _. tt)))
+  all_pairs : (P : ℕ × ℕ → Type 0) → ((a b : ℕ) → a < n → T (direct L E a b) → P (a, b)) → AllByRecursion P opening_pairs
+  all_pairs P f = all_over n P _ (λ a h. all_over n P _ (λ b _. cond_either (AllByRecursion P) (direct L E a b) ((a, b) ∷ []) [] (λ t. (f a b h t, tt)) (λ _. tt)))
 
-  pairs_all : (P : ℕ × ℕ → Type 0) → All P opening_pairs → (a b : ℕ) → a < n → b < n → T (direct L E a b) → P (a, b)
-  pairs_all P all a b h k t = (subst (All P) (cond_yes (direct L E a b) ((a, b) ∷ []) [] t) (over_all n P _ (over_all n P _ all a h) b k)).0
+  pairs_all : (P : ℕ × ℕ → Type 0) → AllByRecursion P opening_pairs → (a b : ℕ) → a < n → b < n → T (direct L E a b) → P (a, b)
+  pairs_all P all a b h k t = (subst (AllByRecursion P) (cond_yes (direct L E a b) ((a, b) ∷ []) [] t) (over_all n P _ (over_all n P _ all a h) b k)).0
 
   -- the opening order, computed
   abbrev pub opening : Rows
@@ -95,6 +95,6 @@ module _ (L : ℕ → ℕ → Bool) (E : List Operation) where
 
   pub opening_says : LawfulOrder L E → WellFormed E → Says E opening (Opening L E)
   opening_says lawful W =
-      let are : All (λ p. T (direct L E p.0 p.1)) opening_pairs = all_pairs (λ p. T (direct L E p.0 p.1)) (λ a b _ t. t) in
+      let are : AllByRecursion (λ p. T (direct L E p.0 p.1)) opening_pairs = all_pairs (λ p. T (direct L E p.0 p.1)) (λ a b _ t. t) in
       built_says L E W (local_here L E lawful) opening (closure_built opening_pairs are)
       (pairs_all (λ p. T (before opening p.0 p.1)) (closure_has opening_pairs are (all_pairs (λ p. p.0 < n) (λ a b h t. h))))

@@ -1,13 +1,13 @@
 -- The first of a list that passes a test.
 use Rattle.std.proofs.Common.{◌≡◌, ℕ, zero, suc, ◌+◌, ◌<◌, ◌≤◌, Bool, true, false, cond, T, List, [], ◌∷◌, ◌++◌, map, Some, None, refl, ap, ◌∙◌, subst, inl, inr, arith}
-use Rattle.std.specs.List.{range_with_len, AllByRecursion as All}
+use Rattle.std.specs.List.{range_with_len, AllByRecursion}
 use Rattle.std.proofs.lemmas.Bool.{cases_eq}
 use Rattle.theory.specs.Lists.{join, over, first_by}
 use Rattle.theory.proofs.Tests.{cond_cases, cond_no, some_none, same_some}
 
 module _ {A : Type 0} (f : A → Bool) where
   abbrev pub Fails : List A → Type 0
-  Fails xs = All (λ x. T (f x) → ⊥) xs
+  Fails xs = AllByRecursion (λ x. T (f x) → ⊥) xs
 
   pub first_none : (xs : List A) → first_by f xs ≡ None → Fails xs
   first_none [] e = tt
@@ -18,7 +18,7 @@ module _ {A : Type 0} (f : A → Bool) where
   none_first (x ∷ xs) h = cond_no (f x) (Some x) (first_by f xs) h.0 ∙ none_first xs h.1
 
   -- the first passes, and has what all have
-  pub first_some : (P : A → Type 0) (xs : List A) (a : A) → All P xs → first_by f xs ≡ Some a → T (f a) × P a
+  pub first_some : (P : A → Type 0) (xs : List A) (a : A) → AllByRecursion P xs → first_by f xs ≡ Some a → T (f a) × P a
   first_some P [] a h e = absurd (some_none refl e)
   first_some P (x ∷ xs) a h e =
       elim (cond_cases (λ o. o ≡ Some a) (f x) (Some x) (first_by f xs) e) [

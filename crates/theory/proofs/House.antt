@@ -1,7 +1,7 @@
 -- The house of an open case always has a next call.
 use Rattle.std.proofs.Common.{◌≡◌, ℕ, ◌<◌, Bool, cond, T, eqb, ltb, ◌⊎◌, List, [], ◌∷◌, ◌++◌, length, Some, None, Option, refl, ap, ◌∙◌, subst, inl, inr, arith, ltb→lt, lt→ltb, T_not}
 use mathlib.Core.Logic.{⊎_swap}
-use Rattle.std.specs.List.{AllByRecursion as All, range_with_len}
+use Rattle.std.specs.List.{AllByRecursion, range_with_len}
 use Rattle.std.proofs.ByRecursion.{All-append, All-weaker}
 use Rattle.std.proofs.lemmas.Bool.{cases_order}
 use Rattle.execution.specs.declared.operation.Operation.{Operation}
@@ -30,15 +30,15 @@ module _ (L : ℕ → ℕ → Bool) (E : List Operation) (M : Model) where
   Refused q = refusal E M q ≡ None → ⊥
 
   module _ (opn : M.state ≡ open') where
-    module _ (all : All Refused (claim_tries E)) where
-      parts : All Refused (close ∷ []) × All Refused (claims_b E) × All Refused (splits E)
+    module _ (all : AllByRecursion Refused (claim_tries E)) where
+      parts : AllByRecursion Refused (close ∷ []) × AllByRecursion Refused (claims_b E) × AllByRecursion Refused (splits E)
       parts =
           let r = append_parts Refused ((close ∷ []) ++ claims E) (splits E) all in
           let s = append_parts Refused (close ∷ []) (claims E) r.0 in
           let t = append_parts Refused (claims_a E ++ claims_b E) (claims_c E) s.1 in
           (s.0, (append_parts Refused (claims_a E) (claims_b E) t.0).1, r.1)
 
-      stands_of : (q : Call) → Refused q → All (λ a. a < length E) (named q) → (T (misshapen E q) → ⊥) → (T (acyclic_close R q) → ⊥) → T (premise E R q) → T (stands E R q)
+      stands_of : (q : Call) → Refused q → AllByRecursion (λ a. a < length E) (named q) → (T (misshapen E q) → ⊥) → (T (acyclic_close R q) → ⊥) → T (premise E R q) → T (stands E R q)
       stands_of q r h m c p = elim (decided (stands E R q)) [ inl t ↦ t | inr f ↦ absurd (r (allowed E M opn q h m p f c)) ]
 
       acyclic : (x : ℕ) → T (before R x x) → ⊥
@@ -56,14 +56,14 @@ module _ (L : ℕ → ℕ → Bool) (E : List Operation) (M : Model) where
       decided_up : (s t : ℕ) → s < t → t < length E → T (rivals E s t) → T (before R s t) ⊎ T (before R t s)
       decided_up s t l h r =
           let a = over_all (length E) Refused _ (over_all (length E) Refused _ parts.2 s (omega arith)) t h in
-          let q : All Refused (split s t ∷ []) = subst (All Refused) (cond_yes (ltb s t) (split s t ∷ []) [] (lt→ltb s t l)) a in
+          let q : AllByRecursion Refused (split s t ∷ []) = subst (AllByRecursion Refused) (cond_yes (ltb s t) (split s t ∷ []) [] (lt→ltb s t l)) a in
           or_cases (before R s t) (before R t s) (stands_of (split s t) q.0 (omega arith, (h, tt)) (λ z. z) (λ z. z) r)
 
 module _ (L : ℕ → ℕ → Bool) (E : List Operation) (lawful : LawfulOrder L E) (W : WellFormed E) (O : Rows) (says : Says E O (Opening L E)) (M : Model) (fit : Fit E O M) (opn : M.state ≡ open') where
   abbrev σ : List ℕ
   σ = greedy E M.order
 
-  module _ (all : All (Refused L E M) (claim_tries E)) where
+  module _ (all : AllByRecursion (Refused L E M) (claim_tries E)) where
     full : Full E M.order σ
     full = greedy_full E M.order fit.order.settled.rows fit.order.settled.joins (acyclic L E M opn all)
 
@@ -119,7 +119,7 @@ module _ (L : ℕ → ℕ → Bool) (E : List Operation) (lawful : LawfulOrder L
         σ full.placed.within)))
         tt (λ z. z) (λ z. z)
 
-  all_are_claims : All (λ q. T (is_claim q)) (claim_tries E)
+  all_are_claims : AllByRecursion (λ q. T (is_claim q)) (claim_tries E)
   all_are_claims =
       All-append (λ q. T (is_claim q)) ((close ∷ []) ++ claims E) (splits E)
       (tt, all_claims E (λ q. T (is_claim q)) (λ l s _ _. tt) (λ l s _ _. tt) (λ l k a b _ _ _ _. tt))

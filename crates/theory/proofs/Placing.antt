@@ -1,7 +1,7 @@
 -- The order that the house proposes, where no operation is before itself: each operation once, after all that are before it.
 use Rattle.std.proofs.Common.{◌≡◌, ℕ, zero, suc, ◌+◌, ◌<◌, ◌≤◌, Bool, not, ◌&&◌, T, eqb, List, [], ◌∷◌, ◌++◌, map, length, Some, None, Option, sym, refl, ap, ◌∙◌, subst, inl, inr, arith, eqb→eq, T_not}
 use lib.Dec.{not_T}
-use Rattle.std.specs.List.{AllByRecursion as All, range_with_len}
+use Rattle.std.specs.List.{AllByRecursion, range_with_len}
 use Rattle.std.proofs.ByRecursion.{All-push}
 use Rattle.std.proofs.lemmas.List.{length_push}
 use Rattle.execution.specs.declared.operation.Operation.{Operation}
@@ -21,7 +21,7 @@ either_way P None f y s n = n refl
 
 module _ (E : List Operation) (R : Rows) where
   pub record Placed (p : List ℕ) : Type 0 where
-    pub within : All (λ a. a < length E) p
+    pub within : AllByRecursion (λ a. a < length E) p
     pub once : (a : ℕ) → count p a ≤ 1
     pub respects : (x a : ℕ) → T (before R x a) → T (member a p) → T (member x p) × (place p x < place p a)
 

@@ -1,6 +1,6 @@
 -- What every reachable case keeps: its orders are settled and contain the opening order, and its choices are between operations.
 use Rattle.std.proofs.Common.{◌≡◌, ℕ, ◌<◌, Bool, not, T, eqb, List, [], ◌∷◌, length, None}
-use Rattle.std.specs.List.{AllByRecursion as All}
+use Rattle.std.specs.List.{AllByRecursion}
 use Rattle.execution.specs.declared.operation.Operation.{Operation}
 use Rattle.execution.specs.Operations.{source, touches}
 use Rattle.execution.specs.Formed.{WellFormed}
@@ -32,7 +32,7 @@ module _ (E : List Operation) (O : Rows) where
 
   pub record Fit (M : Model) : Type 0 where
     pub order : Ordered M.order
-    pub choices : All Standing M.choices
+    pub choices : AllByRecursion Standing M.choices
 
   recorded_ordered : (a b : ℕ) (R : Rows) → Ordered R → b < length E → Ordered (recorded a b R)
   recorded_ordered a b R s h = record {
@@ -40,7 +40,7 @@ module _ (E : List Operation) (O : Rows) where
     grown = λ x y t. recorded_keeps a b R x y (s.grown x y t);
   }
 
-  undone_fit : (R : Rows) (cs : List Choice) → Ordered R → All Standing cs → Fit (undone R cs)
+  undone_fit : (R : Rows) (cs : List Choice) → Ordered R → AllByRecursion Standing cs → Fit (undone R cs)
   undone_fit R [] s a = record { order = s; choices = tt }
   undone_fit R (c ∷ cs) s a =
       let t = a.0 in

@@ -1,7 +1,7 @@
 -- What a call that is not refused has passed, and how to pass.
 use Rattle.std.proofs.Common.{◌≡◌, ℕ, ◌<◌, Bool, true, false, cond, not, ◌&&◌, T, leb, List, map, length, Some, None, Option, refl, ◌∙◌, subst, arith, leb→le, T_not}
 use lib.Dec.{not_T, nleb→lt}
-use Rattle.std.specs.List.{AllByRecursion as All}
+use Rattle.std.specs.List.{AllByRecursion}
 use Rattle.field.specs.declared.refusal.Refusal.{Refusal}
 use Rattle.field.specs.declared.refusal.Refusal.TheVariants.{NoSuchOperation, IncompleteOrder, CaseEnded, PremiseFails, PairRecorded, NoCycle}
 use Rattle.std.proofs.ByRecursion.{All-weaker}
@@ -31,7 +31,7 @@ still_open impossible true h k = absurd k
 still_open impossible false h k = absurd h
 
 pub record Passed (E : List Operation) (M : Model) (q : Call) : Type 0 where
-  pub numbers : All (λ a. a < length E) (named q)
+  pub numbers : AllByRecursion (λ a. a < length E) (named q)
   pub is_open : T (needs_open q) → M.state ≡ open'
   pub premised : T (premise E M.order q)
   pub fresh : T (not (stands E M.order q))
@@ -55,7 +55,7 @@ not_refused E M q e =
     }
 
 pub allowed : (E : List Operation) (M : Model) → M.state ≡ open'
-    → (q : Call) → All (λ a. a < length E) (named q) → (T (misshapen E q) → ⊥) → T (premise E M.order q) → (T (stands E M.order q) → ⊥) → (T (acyclic_close M.order q) → ⊥)
+    → (q : Call) → AllByRecursion (λ a. a < length E) (named q) → (T (misshapen E q) → ⊥) → T (premise E M.order q) → (T (stands E M.order q) → ⊥) → (T (acyclic_close M.order q) → ⊥)
     → refusal E M q ≡ None
 allowed E M opn q h m p s c =
     cond_no _ _ _ (any_none (λ a. leb (length E) a) (named q) (All-weaker (λ a. a < length E) (λ a. T (leb (length E) a) → ⊥) (λ a l t. let k = leb→le (length E) a t in omega arith) (named q) h))

@@ -1,7 +1,7 @@
 -- Rows can be closed under the three rules, within any relation that keeps them.
 use Rattle.std.proofs.Common.{◌≡◌, ℕ, zero, suc, ◌<◌, not, ◌&&◌, T, eqb, ◌≢◌, List, length, Some, None, Option, sym, refl, subst, inl, inr, arith}
 use lib.Dec.{not_T}
-use Rattle.std.specs.List.{AllByRecursion as All}
+use Rattle.std.specs.List.{AllByRecursion}
 use Rattle.std.proofs.ByRecursion.{All-weaker}
 use Rattle.execution.specs.declared.operation.Operation.{Operation}
 use Rattle.execution.specs.Operations.{load_at, same_address, source, touches}
@@ -28,7 +28,7 @@ abbrev pub Stands : List Operation → Rows → Call → Type 0
 Stands E Q q = T (premise E Q q) → T (stands E Q q)
 
 -- where no claim lacks its pair, each stands
-pub none_lacks : (E : List Operation) (Q : Rows) → first_by (lacks E Q) (claims E) ≡ None → All (Stands E Q) (claims E)
+pub none_lacks : (E : List Operation) (Q : Rows) → first_by (lacks E Q) (claims E) ≡ None → AllByRecursion (Stands E Q) (claims E)
 none_lacks E Q e =
     All-weaker (λ q. T (lacks E Q q) → ⊥) (Stands E Q) (λ q f p. not_not (stands E Q q) (not_T (not (stands E Q q)) (λ n. f (both (premise E Q q) (not (stands E Q q)) p n)))) (claims E)
     (first_none (lacks E Q) (claims E) e)
@@ -104,7 +104,7 @@ module _ (E : List Operation) (W : WellFormed E) (P : ℕ → ℕ → Type 0) (r
       gain_falls = missing_falls E a b Q (settled_square (length E) Q q.settled) g.from g.to g.new
 
   abbrev pub Saturated : Rows → Type 0
-  Saturated Q = (Q' : Rows) × Part Q' × ((x y : ℕ) → T (before Q x y) → T (before Q' x y)) × All (Stands E Q') (claims E)
+  Saturated Q = (Q' : Rows) × Part Q' × ((x y : ℕ) → T (before Q x y) → T (before Q' x y)) × AllByRecursion (Stands E Q') (claims E)
 
   close_up : (k : ℕ) (Q : Rows) → Part Q → missing E Q < k → Saturated Q
   close_up zero Q q h = absurd (omega arith)

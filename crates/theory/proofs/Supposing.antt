@@ -1,7 +1,7 @@
 -- What follows by the rules can be written as rows: the least order, and what is supposed.
 use Rattle.std.proofs.Common.{◌≡◌, ℕ, ◌<◌, ◌≤◌, Bool, not, ◌&&◌, ◌||◌, T, eqb, List, ◌++◌, length, None, sym, subst, inl, inr, arith, eqb→eq}
 use lib.Dec.{eqb_refl, not_T}
-use Rattle.std.specs.List.{AllByRecursion as All}
+use Rattle.std.specs.List.{AllByRecursion}
 use Rattle.execution.specs.declared.operation.Operation.{Operation}
 use Rattle.execution.specs.Operations.{load_at, same_address, source, touches}
 use Rattle.execution.specs.Formed.{WellFormed}
@@ -17,7 +17,7 @@ use Rattle.theory.proofs.Counting.{settled_square, pairs_mono}
 use Rattle.theory.proofs.Saturation.{Ruled, Stands, Part, none_lacks, saturated, recorded_part}
 
 -- rows in which no claim is missing keep the rules
-pub rows_ruled : (E : List Operation) (Q : Rows) → Settled (length E) Q → All (Stands E Q) (claims E) → Ruled E (λ x y. T (before Q x y))
+pub rows_ruled : (E : List Operation) (Q : Rows) → Settled (length E) Q → AllByRecursion (Stands E Q) (claims E) → Ruled E (λ x y. T (before Q x y))
 rows_ruled E Q settled all =
     let r = append_parts (Stands E Q) (claims_a E ++ claims_b E) (claims_c E) all in
     let s = append_parts (Stands E Q) (claims_a E) (claims_b E) r.0 in
@@ -113,7 +113,7 @@ module _ (E : List Operation) (W : WellFormed E) (B : ℕ → ℕ → Bool) wher
   Between Q = Part E W (Derived E B) (derived_ruled E B) Q
 
   -- where no claim is missing, they say what follows
-  pub closed_says : (Q : Rows) → Between Q → ((x y : ℕ) → T (B x y) → T (before Q x y)) → All (Stands E Q) (claims E) → Says E Q (Derived E B)
+  pub closed_says : (Q : Rows) → Between Q → ((x y : ℕ) → T (B x y) → T (before Q x y)) → AllByRecursion (Stands E Q) (claims E) → Says E Q (Derived E B)
   closed_says Q q sub all =
       (q.settled.rows, λ x y. (q.inside x y, derived_least E B (λ x y. T (before Q x y)) (rows_ruled E Q q.settled all) sub))
 

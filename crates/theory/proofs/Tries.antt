@@ -1,6 +1,6 @@
 -- The tries of the house, one group after the other.
 use Rattle.std.proofs.Common.{◌≡◌, ℕ, ◌<◌, Bool, true, false, cond, not, ◌&&◌, T, ltb, leb, List, [], ◌∷◌, ◌++◌, length, Some, None, refl, ap, ◌∙◌, ap₂, arith, leb→le}
-use Rattle.std.specs.List.{AllByRecursion as All}
+use Rattle.std.specs.List.{AllByRecursion}
 use Rattle.std.proofs.ByRecursion.{All-append, All-weaker}
 use Rattle.field.specs.declared.refusal.Refusal.TheVariants.{PremiseFails, PairRecorded, NoCycle}
 use Rattle.execution.specs.declared.operation.Operation.{Operation}
@@ -14,7 +14,7 @@ use Rattle.theory.proofs.Firsts.{first_left, first_right}
 -- a property of every claim by the three rules whose numbers are those of operations
 module _ (E : List Operation) (P : Call → Type 0) where
   pub all_claims : ((l s : ℕ) → l < length E → s < length E → P (claim_a l s)) → ((l s : ℕ) → l < length E → s < length E → P (claim_b l s))
-      → ((l k a b : ℕ) → l < length E → k < length E → a < length E → b < length E → P (claim_c l k a b)) → All P (claims E)
+      → ((l k a b : ℕ) → l < length E → k < length E → a < length E → b < length E → P (claim_c l k a b)) → AllByRecursion P (claims E)
   all_claims f g h =
       All-append P (claims_a E ++ claims_b E) (claims_c E)
       (All-append P (claims_a E) (claims_b E)
@@ -22,10 +22,10 @@ module _ (E : List Operation) (P : Call → Type 0) where
       (all_over (length E) P _ (λ l i. all_over (length E) P _ (λ s j. (g l s i j, tt)))))
       (all_over (length E) P _ (λ l i. all_over (length E) P _ (λ k j. all_over (length E) P _ (λ a m. all_over (length E) P _ (λ b o. (h l k a b i j m o, tt))))))
 
-  pub all_splits : ((s t : ℕ) → s < length E → t < length E → P (split s t)) → All P (splits E)
-  all_splits f = all_over (length E) P _ (λ s i. all_over (length E) P _ (λ t j. cond_either (All P) (ltb s t) (split s t ∷ []) [] (λ _. (f s t i j, tt)) (λ _. tt)))
+  pub all_splits : ((s t : ℕ) → s < length E → t < length E → P (split s t)) → AllByRecursion P (splits E)
+  all_splits f = all_over (length E) P _ (λ s i. all_over (length E) P _ (λ t j. cond_either (AllByRecursion P) (ltb s t) (split s t ∷ []) [] (λ _. (f s t i j, tt)) (λ _. tt)))
 
-first_same : {A : Type 0} (f g : A → Bool) (xs : List A) → All (λ x. f x ≡ g x) xs → first_by f xs ≡ first_by g xs
+first_same : {A : Type 0} (f g : A → Bool) (xs : List A) → AllByRecursion (λ x. f x ≡ g x) xs → first_by f xs ≡ first_by g xs
 first_same f g [] a = refl
 first_same f g (x ∷ xs) a = ap₂ (λ b o. cond b (Some x) o) a.0 (first_same f g xs a.1)
 
@@ -37,7 +37,7 @@ module _ (E : List Operation) (M : Model) (opn : M.state ≡ open') where
   rest true false false n = refl
   rest false s c n = refl
 
-  pub granted_is : (q : Call) → All (λ a. a < length E) (named q) → (T (misshapen E q) → ⊥) → (T (acyclic_close M.order q) → ⊥) → granted (refusal E M q) ≡ lacks E M.order q
+  pub granted_is : (q : Call) → AllByRecursion (λ a. a < length E) (named q) → (T (misshapen E q) → ⊥) → (T (acyclic_close M.order q) → ⊥) → granted (refusal E M q) ≡ lacks E M.order q
   granted_is q h m c =
       ap granted (
       cond_no _ _ _ (any_none (λ a. leb (length E) a) (named q) (All-weaker (λ a. a < length E) (λ a. T (leb (length E) a) → ⊥) (λ a l t. let k = leb→le (length E) a t in omega arith) (named q) h))

@@ -1,6 +1,6 @@
 -- Worked examples: small executions, the books that judge them, and what must come out.
 use Rattle.std.specs.Prelude.{◌≡◌, ℕ, Bool, false, T, List, [], ◌∷◌, Some, None}
-use Rattle.std.specs.List.{AllByRecursion as All}
+use Rattle.std.specs.List.{AllByRecursion}
 use Rattle.field.specs.declared.refusal.Refusal.TheVariants.{PairRecorded, NotSerialization}
 use Rattle.execution.specs.declared.operation.Action.{Action}
 use Rattle.execution.specs.declared.operation.Action.TheVariants as act
@@ -117,4 +117,4 @@ examples =
 
 -- every example holds
 abbrev pub ExamplesHold : Type 0
-ExamplesHold = All Holds examples
+ExamplesHold = AllByRecursion Holds examples

@@ -1,6 +1,6 @@
 -- What holds of every case, whatever calls it got.
 use Rattle.std.specs.Prelude.{◌≡◌, ℕ, ◌+◌, ◌*◌, ◌^◌, ◌<◌, ◌≤◌, Bool, T, List, [], ◌∷◌, length, take, None}
-use Rattle.std.specs.List.{AllByRecursion as All}
+use Rattle.std.specs.List.{AllByRecursion}
 use Rattle.execution.specs.declared.operation.Operation.{Operation}
 use Rattle.execution.specs.Operations.{load_at}
 use Rattle.execution.specs.Formed.{WellFormed}
@@ -136,7 +136,7 @@ pub record SoundOrders (E : List Operation) (O : Rows) (M : Model) : Type 0 wher
   -- it has all pairs of the opening order
   pub grown : (x y : ℕ) → T (before O x y) → T (before M.order x y)
   -- each order that stood when a choice was made is transitive and names operations only
-  pub stood : All (λ (c : Choice). Settled (length E) c.stood) M.choices
+  pub stood : AllByRecursion (λ (c : Choice). Settled (length E) c.stood) M.choices
 
 -- whatever calls a new case gets, its orders are sound
 abbrev pub OrdersStaySound : Type 0
@@ -153,7 +153,7 @@ pub record FewChoices (E : List Operation) (O : Rows) (M : Model) : Type 0 where
   -- and where a split is not refused there is room for one more
   pub room : (s t : ℕ) → refusal E M (split s t) ≡ None → length M.choices < 496
   -- each is between two operations
-  pub within : All (λ (c : Choice). (c.one < length E) × (c.other < length E)) M.choices
+  pub within : AllByRecursion (λ (c : Choice). (c.one < length E) × (c.other < length E)) M.choices
 
 -- whatever calls a new case gets, its choices are few
 abbrev pub ChoicesFit : Type 0
