@@ -5,7 +5,7 @@ ghost use Rattle.rulebook.specs.declared.seen.Seen.{Seen};
 ghost use Rattle.rulebook.specs.declared.entry.Entry.TheVariants.{Kept};
 ghost use Rattle.rulebook.specs.Books.{sc};
 ghost use Rattle.rulebook.specs.Tables.{obeys, written};
-ghost use Rattle.std.proofs.Common.{rules, arith};
+ghost use Rattle.std.proofs.Common.{rules};
 
 use super::entry::Entry;
 use super::rule_book::RuleBook;
@@ -47,7 +47,7 @@ impl Table {
 impl RuleBook for Table {
     ghost keeps = { λ t. written t.entries };
 
-    ghost lawful = { first_of (Prim.search rules, Prim.grind (arith, Self.row.coded.inj)) };
+    ghost lawful = { Prim.search rules };
 
     fn kept(&self, first: Seen, second: Seen) -> bool {
         let entry = self.entries[first.access.place(second.access)];

@@ -1,5 +1,5 @@
 -- A case: what it holds, what it can be asked, what it answers to each call, and what the call leaves.
-use Rattle.std.specs.Prelude.{◌≡◌, ℕ, zero, suc, ◌-◌, Bool, true, false, cond, not, ◌&&◌, ◌||◌, T, ltb, List, [], ◌∷◌, ◌++◌, map, length, Some, None, Ok, Err, Option, Result, ◌==◌, nat_le, nat_lt}
+use Rattle.std.specs.Prelude.{◌≡◌, ℕ, zero, suc, ◌-◌, Bool, true, false, cond, not, ◌&&◌, ◌||◌, T, List, [], ◌∷◌, ◌++◌, map, length, Some, None, Ok, Err, Option, Result, ◌==◌, nat_le, nat_lt}
 use Rattle.std.specs.List.{range_with_len}
 use Rattle.field.specs.declared.refusal.Refusal.{Refusal}
 use Rattle.field.specs.declared.refusal.Refusal.TheVariants.{NoSuchOperation, IncompleteOrder, CaseEnded, PremiseFails, PairRecorded, NoCycle, NotSerialization, MemoryTooShort, NotSerial}
@@ -141,7 +141,7 @@ module _ (E : List Operation) where
   misshapen (claim_c l k a b) = false
   misshapen (split s t) = false
   misshapen close = false
-  misshapen (propose σ) = not (length σ == length E) || any (map (λ a. ltb 1 (count σ a)) σ)
+  misshapen (propose σ) = not (length σ == length E) || any (map (λ a. nat_lt 1 (count σ a)) σ)
   misshapen (house k) = false
   misshapen (what_if a b) = false
   misshapen (least a b) = false

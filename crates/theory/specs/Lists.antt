@@ -1,5 +1,5 @@
 -- Lists of numbers: tests over ranges, what stands where, and the first that passes a test.
-use Rattle.std.specs.Prelude.{ℕ, ◌+◌, Bool, false, cond, not, ◌||◌, List, [], ◌∷◌, ◌++◌, map, Some, None, Option, ◌==◌, nat_eq}
+use Rattle.std.specs.Prelude.{ℕ, ◌+◌, Bool, false, cond, not, ◌||◌, List, [], ◌∷◌, ◌++◌, map, Some, None, Option, ◌==◌}
 use Rattle.std.specs.List.{range_with_len}
 
 -- the lists one after the other
@@ -27,7 +27,7 @@ first_by f (x ∷ xs) = cond (f x) (Some x) (first_by f xs)
 
 -- a stands in the list
 abbrev pub member : ℕ → List ℕ → Bool
-member a xs = any (map (λ x. nat_eq x a) xs)
+member a xs = any (map (λ x. x == a) xs)
 
 -- how often a stands in the list
 abbrev pub count : List ℕ → ℕ → ℕ

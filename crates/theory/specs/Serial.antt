@@ -1,5 +1,5 @@
 -- The local order, and what follows from it and from the sources of the loads: the opening order, the least order, serializations.
-use Rattle.std.specs.Prelude.{◌≡◌, ℕ, ◌<◌, ◌≤◌, Bool, not, ◌&&◌, ◌||◌, T, ◌≢◌, List, length, ◌==◌, nat_eq, nat_lt}
+use Rattle.std.specs.Prelude.{◌≡◌, ℕ, ◌<◌, ◌≤◌, Bool, not, ◌&&◌, ◌||◌, T, ◌≢◌, List, length, ◌==◌, nat_lt}
 use Rattle.execution.specs.declared.operation.Operation.{Operation}
 use Rattle.execution.specs.Operations.{op, present, initial, load_at, same_address, source, saw, touches}
 use Rattle.rulebook.specs.declared.seen.Seen.{Seen}
@@ -94,7 +94,7 @@ module _ (L : ℕ → ℕ → Bool) (E : List Operation) where
     abbrev pub serial? : Bool
     serial? =
         (length σ == length E)
-        && every (length E) (λ a. nat_eq (count σ a) 1)
+        && every (length E) (λ a. count σ a == 1)
         && every (length E) (λ a. every (length E) (λ b. not (L a b) || earlier a b))
         && every (length E) (λ l. not (load_at E l) || earlier (source E l) l)
         && every (length E) (λ l. every (length E) (λ t. not (touches E t l && earlier (source E l) t && earlier t l)))

@@ -49,11 +49,11 @@ fn named(state: State) -> &'static str {
 fn tell(
     rt: &HostRuntime,
     what: &str,
-    res: Result<(), Refusal>,
+    outcome: Result<(), Refusal>,
     state: State,
 ) -> anyhow::Result<()> {
     let state = named(state);
-    match res {
+    match outcome {
         Ok(()) => println!(rt; "  {what}: admitted; the case is {state}")?,
         Err(refusal) => {
             let number = refusal.number();

@@ -1,8 +1,10 @@
-use Rattle.std.proofs.Common.{◌≡◌, refl, ap, subst, arith}
+use Rattle.std.proofs.Common.{◌≡◌, ◌+◌, ◌≤◌, refl, ap, subst, arith, rules}
 use Rattle.field.specs.declared.refusal.Refusal.TheVariants.{CaseEnded}
 use Rattle.theory.specs.Case.{Turns, spent, single, housed, turned_away}
 use Rattle.theory.proofs.Runs.{house_may, house_ended, turns_push, turns_left}
+use Rattle.desk.specs.declared.desk.Desk.{Desk}
 use Rattle.desk.specs.Model.{events, locally, at_first, model, state_of}
+use Rattle.house.specs.Turns.{Come, Turned}
 use Rattle.house.proofs.Come.{turns_on}
 use Rattle.house.proofs.Ends.{not_open, same_state, not_both, nor_both}
 use Rattle.house.proofs.budget.house.Goals as goal
@@ -27,8 +29,13 @@ loop-made-preserved c =
     let b = c.loop-made.desk in
     let inv = c.loop-made.invariant in
     let going = ap state_of c.in-Open-state.is in
-    let took = c.turn.ensures.1 in
-    (omega arith, turns_push (locally g) (events g) inv.1 going took, turns_on (locally g) (events g) (at_first g) going took inv.2)
+    let one_more : c.loop-made.made + 1 ≤ c.args.budget = omega arith in
+    let L = locally g in
+    let E = events g in
+    let t = c.loop-made.made + 1 in
+    let next : (d : Desk) → Turned g b d → (t ≤ c.args.budget) × Turns L E (model g c.args.desk.now) t t (model g d) × Come g d =
+    λ d took. (one_more, turns_push L E inv.1 going took.1, turns_on L E (at_first g) going took.1 inv.2) in
+    search (rules, next)
 
 pub returns : goal.returns
 returns c =
