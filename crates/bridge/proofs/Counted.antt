@@ -1,5 +1,5 @@
 -- One record, one book and one relation have one count.
-use Rattle.std.proofs.Common.{◌≡◌, ℕ, Bool, List, Ok, Err, Result, sym, ap, ◌∙◌, subst, arith}
+use Rattle.std.proofs.Common.{◌≡◌, ℕ, Bool, List, Some, None, MatchOption, Option, Ok, Err, Result, sym, ap, ◌∙◌, subst, arith}
 use Rattle.field.specs.declared.fault.Fault.{Fault}
 use Rattle.execution.specs.declared.operation.Operation.{Operation}
 use Rattle.execution.specs.declared.execution.Execution.{Execution}
@@ -9,6 +9,7 @@ use Rattle.order.specs.declared.order.Order.{Order}
 use Rattle.theory.specs.Order.{Rows, pairs, Says}
 use Rattle.theory.specs.Serial.{local}
 use Rattle.theory.proofs.Determined.{same_rows}
+use Rattle.bridge.specs.declared.Start.{Start}
 use Rattle.bridge.specs.Counts.{PairsOf, NotStarted, Started}
 
 never : {A E : Type 0} (x : A) (e : E) → Ok x ≡ Err e → ⊥
@@ -39,3 +40,9 @@ module _ (R : (ℕ → ℕ → Bool) → List Operation → ℕ → ℕ → Type
 
   pub counts_none : NotStarted s code → r ≡ 4294967295 → PairsOf R s code r
   counts_none none e = record { counted = λ E b h k Q q. absurd (none E b h k); no_record = λ f h. e; no_book = λ f h. e }
+
+  -- the count by cases: one of the two was refused, or both are there
+  pub by_cases : (o : Option Start) {Post : Start → Type 0} → MatchOption o (NotStarted s code) (λ p. Started s code p.execution p.opening) → MatchOption o (r ≡ 4294967295) Post
+      → ((p : Start) → Started s code p.execution p.opening → Post p → PairsOf R s code r) → PairsOf R s code r
+  by_cases None n e k = counts_none n e
+  by_cases (Some p) st e k = k p st e

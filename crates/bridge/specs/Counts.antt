@@ -11,7 +11,7 @@ use Rattle.rulebook.specs.Codes.{book_keeps, book_by_code}
 use Rattle.order.specs.declared.order.Order.{Order}
 use Rattle.theory.specs.Order.{Rows, pairs, Says}
 use Rattle.theory.specs.Serial.{local, Opening}
-use Rattle.rules.specs.Claims.{rows_of}
+use Rattle.order.specs.Rows.{rows_of}
 
 -- r is the number of pairs of the relation R over the local order, where there are a record and a book; else 2 ^ 32 - 1
 pub record PairsOf (R : (ℕ → ℕ → Bool) → List Operation → ℕ → ℕ → Type 0) (s : List ℕ) (code r : ℕ) : Type 0 where

@@ -5,7 +5,7 @@ ghost use Rattle.std.specs.Prelude.{length, IfSome, MatchOption};
 ghost use Rattle.execution.specs.Calls.{ops};
 ghost use Rattle.theory.specs.Order.{Settled};
 ghost use Rattle.theory.specs.Serial.{Opening, Least};
-ghost use Rattle.rules.specs.Claims.{rows_of};
+ghost use Rattle.order.specs.Rows.{rows_of};
 ghost use Rattle.bridge.specs.Counts.{PairsOf, Started, NotStarted};
 
 use execution::Execution;
@@ -26,26 +26,23 @@ fn begin(bytes: &[u8], code: u8) -> Option<Start>
     ensures started { MatchOption result (NotStarted bytes.now code) (λ p. Started bytes.now code p.execution p.opening) }
     ensures settled { IfSome result (λ p. Settled (length (ops p.execution)) (rows_of p.execution p.opening)) }
 {
+    let book = Book::try_from(code).ok()?;
     let mut execution = Execution::new();
-    let Ok(book) = Book::by_code(code) else {
-        return None;
-    };
-    let Ok(()) = execution.read(bytes) else {
-        return None;
-    };
+    execution.read(bytes).ok()?;
     let opening = open(&execution, &book).opening;
     Some(Start { execution, opening })
 }
+
+// The numbers of the two functions below are C's interface: one that no count reaches stands for a refusal.
 
 /// How many pairs the opening order of a record has under the book with this code; `u32::MAX` where one of them is refused.
 #[unsafe(no_mangle)]
 pub extern "C" fn judge_opening_pairs(bytes: &[u8], code: u8) -> u32
     ensures { PairsOf Opening bytes.now code result }
 {
-    match begin(bytes, code) {
-        Some(begun) => begun.opening.pairs(begun.execution.len()),
-        None => u32::MAX,
-    }
+    begin(bytes, code).map_or(u32::MAX, |start| {
+        start.opening.pairs(start.execution.len())
+    })
 }
 
 /// How many pairs the least order of a record has under the book with this code; `u32::MAX` where one of them is refused.
@@ -53,8 +50,9 @@ pub extern "C" fn judge_opening_pairs(bytes: &[u8], code: u8) -> u32
 pub extern "C" fn judge_least_pairs(bytes: &[u8], code: u8) -> u32
     ensures { PairsOf Least bytes.now code result }
 {
+    // a `match`: in a closure the least order would have no name for the contract to speak of
     match begin(bytes, code) {
-        Some(begun) => least_order(&begun.execution, &begun.opening).pairs(begun.execution.len()),
+        Some(start) => least_order(&start.execution, &start.opening).pairs(start.execution.len()),
         None => u32::MAX,
     }
 }

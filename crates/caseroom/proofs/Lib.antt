@@ -1,4 +1,3 @@
-pub mod Opened
 pub mod Reach
 pub mod Same
 pub mod Asked

@@ -1,5 +1,6 @@
 -- A session, call by call.
-use Rattle.std.proofs.Common.{◌≡◌, ℕ, ◌+◌, ◌<◌, Bool, List, [], ◌∷◌, ◌++◌, map, length, get_or, take, set, sym, ap, ◌∙◌, subst}
+use Rattle.std.proofs.Common.{◌≡◌, ℕ, ◌+◌, ◌<◌, Bool, List, [], ◌∷◌, ◌++◌, map, length, get_or, take, set, sym, ap, ◌∙◌, subst, Result, arith, take_all}
+use Rattle.field.specs.declared.refusal.Refusal.{Refusal}
 use mathlib.Core.List.{map-append}
 use Rattle.std.proofs.lemmas.List.{take_more, take_more_set}
 use Rattle.execution.specs.declared.execution.Execution.{Execution}
@@ -19,7 +20,7 @@ use Rattle.desk.specs.declared.given.Given.{Given}
 use Rattle.desk.specs.declared.desk.Desk.{Desk}
 use Rattle.desk.specs.Model.{events, locally, at_first, model}
 use Rattle.caseroom.specs.declared.calls.Call.{Call}
-use Rattle.caseroom.specs.declared.calls.Answer.{Answer}
+use Rattle.caseroom.specs.declared.calls.Reply.{Reply}
 use Rattle.caseroom.specs.Replied.{HeardBy}
 use Rattle.caseroom.specs.Heard.{heard, said}
 
@@ -31,7 +32,7 @@ pub none_heard : (g : Given) (d : Desk) → model g d ≡ opened (at_first g) �
 none_heard g d e = subst (Run (locally g) (events g) (opened (at_first g)) [] []) (sym e) done
 
 -- one more call, by a case h that was given the same
-pub one_heard : (g h : Given) (pre post : Desk) (calls : List Call) (answers : List Answer) (i : ℕ) (x : Call) (v : Answer) → h ≡ g → i < length calls → i < length answers
+pub one_heard : (g h : Given) (pre post : Desk) (calls : List Call) (answers : List (Result Reply Refusal)) (i : ℕ) (x : Call) (v : Result Reply Refusal) → h ≡ g → i < length calls → i < length answers
     → Ran g (map heard (take i calls)) (map said (take i answers)) pre
     → HeardBy h pre (heard (get_or calls i x)) (said v) post
     → Ran g (map heard (take (i + 1) calls)) (map said (take (i + 1) (set answers i v))) post
@@ -43,16 +44,15 @@ one_heard g h pre post calls answers i x v e hc ha ran now =
     (subst (λ (z : List theory.Answer). Ran g (map heard (take i calls) ++ (q ∷ [])) z post) (sym rs)
     (run_push (locally g) (events g) ran (subst (λ (k : Given). HeardBy k pre q (said v) post) e now)))
 
--- what a case over x, opened under a book, came to is a session
-pub heard_out : (keeps : Seen → Seen → Bool) → Law keeps → (x : Execution) (g : Given) (d : Desk) (qs : List theory.Call) (rs : List theory.Answer)
+-- what a case over x, opened under a book, came to is a session: by a case h that was given the same, when all calls are heard
+pub heard_out : {keeps : Seen → Seen → Bool} → Law keeps → (x : Execution) {g h : Given} (d : Desk) (calls : List Call) (answers : List (Result Reply Refusal)) {i : ℕ} → h ≡ g → i ≡ length calls
     → events g ≡ ops x → ((a b : ℕ) → locally g a b ≡ local keeps (ops x) a b) → Says (ops x) (at_first g) (Opening (local keeps (ops x)) (ops x))
-    → Ran g qs rs d
-    → Session keeps (ops x) (at_first g) qs rs (model g d)
-heard_out keeps law x g d qs rs e l says ran =
-    let over = subst (λ (E : List Operation). Run (locally g) E (opened (at_first g)) qs rs (model g d)) e ran in
+    → Ran g (map heard (take i calls)) (map said (take i answers)) d
+    → Session keeps (ops x) (at_first h) (map heard calls) (map said (take (length calls) answers)) (model h d)
+heard_out {keeps} law x {g} {h} d calls answers {i} same end e l says ran =
+    let qs = map heard calls in
+    let rs = map said (take (length calls) answers) in
+    let all = subst (λ (cs : List Call). Ran g (map heard cs) rs d) (take_all (length calls) calls (omega arith)) (subst (λ (k : ℕ). Ran g (map heard (take k calls)) (map said (take k answers)) d) end ran) in
+    let over = subst (λ (E : List Operation). Run (locally g) E (opened (at_first g)) qs rs (model g d)) e all in
     let under = subst (λ (L : ℕ → ℕ → Bool). Run L (ops x) (opened (at_first g)) qs rs (model g d)) (λ i a b. l a b i) over in
-    sessions keeps law (ops x) (formed x) (at_first g) says qs rs (model g d) under
-
--- a call was heard, whatever it and its answer are called
-pub heard_as : (g : Given) (pre post : Desk) {p q : theory.Call} {r s : theory.Answer} → p ≡ q → r ≡ s → HeardBy g pre q s post → HeardBy g pre p r post
-heard_as g pre post {p} {q} {r} {s} e f h = subst (λ (x : theory.Call). HeardBy g pre x r post) (sym e) (subst (λ (x : theory.Answer). HeardBy g pre q x post) (sym f) h)
+    subst (λ (k : Given). Session keeps (ops x) (at_first k) qs rs (model k d)) (sym same) (sessions keeps law (ops x) (formed x) (at_first g) says qs rs (model g d) under)

@@ -1,16 +1,24 @@
 -- The order of a serial case, as it stands in the memory that was lent for it.
-use Rattle.std.proofs.Common.{◌≡◌, ℕ, Bool, true, false, cond, List, ◌++◌, length, drop, Ok, Err, refl, ap, ◌∙◌, arith, take_at, drop_at}
-use Rattle.field.specs.declared.refusal.Refusal.TheVariants.{MemoryTooShort}
-use Rattle.theory.specs.Case.{order_of}
-use Rattle.desk.specs.declared.state.State.{State}
-use Rattle.desk.specs.declared.state.State.TheVariants.{Open, Serial, Impossible}
-use Rattle.desk.specs.Model.{state_of, witness_of}
+use Rattle.std.proofs.Common.{◌≡◌, ◌≤◌, ℕ, List, ◌++◌, length, take, drop, Ok, sym, ap, ◌∙◌, subst, arith, rules, take_at, drop_at}
+use Rattle.std.proofs.lemmas.List.{length-take-le}
+use Rattle.theory.specs.Case.{order_out}
+use Rattle.rules.proofs.Executions.{few}
+use Rattle.desk.specs.declared.state.State.TheVariants.{Serial}
+use Rattle.desk.specs.declared.given.Given.{Given}
+use Rattle.desk.specs.declared.desk.Desk.{Desk}
+use Rattle.desk.specs.Model.{events, model}
 use Rattle.caseroom.specs.Written.{WrittenOut}
 
-module _ (n : ℕ) (σ pre put : List ℕ) (long : length σ ≡ n) (same : put ≡ σ) where
-  pub serial_written : (short : Bool) → short ≡ false → (s : State) → s ≡ Serial
-      → WrittenOut n (cond short (Err MemoryTooShort) (order_of (state_of s) (witness_of s σ))) pre (Ok n) (put ++ drop n pre)
-  serial_written true e s h = let z : ◌≡◌ {A = ℕ} 0 1 = cc in absurd (omega arith)
-  serial_written false e Open h = let z : ◌≡◌ {A = ℕ} 0 1 = cc in absurd (omega arith)
-  serial_written false e Impossible h = let z : ◌≡◌ {A = ℕ} 0 1 = cc in absurd (omega arith)
-  serial_written false e Serial h = (refl, take_at put (drop n pre) n (ap length same ∙ long) ∙ same, drop_at put (drop n pre) n (ap length same ∙ long))
+pub serial_written : (g : Given) (d : Desk) (n : ℕ) (pre put : List ℕ) → n ≡ length (events g) → n ≤ length pre → d.state ≡ Serial → put ≡ take n d.admitted
+    → WrittenOut (length (events g)) (order_out (events g) (model g d) (length pre)) pre (Ok n) (put ++ drop n pre)
+serial_written g d n pre put all room serial same =
+    let most = few g.execution in
+    let space = d.space in
+    let long : length put ≡ n = ap length same ∙ length-take-le n d.admitted (omega arith) in
+    let σ = take (length (events g)) d.admitted in
+    let told : order_out (events g) (model g d) (length pre) ≡ Ok σ = search rules in
+    subst (λ o. WrittenOut (length (events g)) o pre (Ok n) (put ++ drop n pre)) (sym told) (
+      ap Ok all,
+      ap (λ k. take k (put ++ drop n pre)) (sym all) ∙ take_at put (drop n pre) n long ∙ same ∙ ap (λ k. take k d.admitted) all,
+      ap (λ k. drop k (put ++ drop n pre)) (sym all) ∙ drop_at put (drop n pre) n long ∙ ap (λ k. drop k pre) all,
+    )

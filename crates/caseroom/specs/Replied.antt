@@ -1,9 +1,6 @@
 -- How a case answers one call, read off what it was given and its desk before and after.
-use Rattle.std.specs.Prelude.{◌≡◌, ℕ, ◌-◌, Bool, List, Ok, Err, Result}
+use Rattle.std.specs.Prelude.{ℕ, Bool, Ok, Err, Result}
 use Rattle.field.specs.declared.refusal.Refusal.{Refusal}
-use Rattle.execution.specs.declared.operation.Operation.{Operation}
-use Rattle.theory.specs.Order.{Rows, pairs, cyclic, Says}
-use Rattle.theory.specs.Serial.{Supposed}
 use Rattle.theory.specs.Case.{Call, Answer, refused, supposed, says, Replies, Hears}
 use Rattle.desk.specs.declared.given.Given.{Given}
 use Rattle.desk.specs.declared.desk.Desk.{Desk}
@@ -16,10 +13,6 @@ Replied g pre q r post = Replies (locally g) (events g) (model g pre) q r (model
 -- the same of any call, the house's turns among them
 abbrev pub HeardBy : Given → Desk → Call → Answer → Desk → Type 0
 HeardBy g pre q r post = Hears (locally g) (events g) (model g pre) q r (model g post)
-
--- what supposing a before b adds to the rows R: so many pairs, and whether they then have a cycle
-abbrev pub Found : List Operation → Rows → ℕ → ℕ → ℕ × Bool → Type 0
-Found E R a b r = (Q : Rows) × Says E Q (Supposed E R a b) × (r.0 ≡ pairs Q - pairs R) × (r.1 ≡ cyclic Q)
 
 -- the answer to the question what if
 abbrev pub supposed_of : Result (ℕ × Bool) Refusal → Answer

@@ -5,7 +5,7 @@ use field::Refusal;
 use rules::Claim;
 
 /// A call on a case.
-#[derive(Clone, Copy)]
+#[derive(Debug, Clone, Copy, PartialEq, Eq)]
 pub enum Call<'a> {
     /// A claim.
     Claim(Claim),
@@ -19,13 +19,11 @@ pub enum Call<'a> {
     Least { a: u8, b: u8 },
 }
 
-/// What it answers.
-#[derive(Clone, Copy)]
-pub enum Answer {
+/// What a case says to a call that it does not refuse.
+#[derive(Debug, Clone, Copy, PartialEq, Eq)]
+pub enum Reply {
     /// The claim or the order is taken.
     Admitted,
-    /// The call is turned away, and why.
-    Refused(Refusal),
     /// How many turns the house took, and the state after them.
     Made(u16, State),
     /// How many pairs would be added, and whether there would be a cycle.
@@ -33,3 +31,6 @@ pub enum Answer {
     /// Yes or no.
     Says(bool),
 }
+
+/// What a call answers: a reply, or why it is turned away.
+pub type Answer = Result<Reply, Refusal>;

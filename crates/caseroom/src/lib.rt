@@ -1,7 +1,6 @@
 //! A case: opened on an execution under a rule book, it takes claims and answers questions until it has its verdict.
 #![tactic(auto)]
 
-mod answers;
 mod calls;
 mod case;
 mod claims;
@@ -16,6 +15,6 @@ mod turns;
 mod verdict;
 mod writing;
 
-pub use calls::{Answer, Call};
+pub use calls::{Answer, Call, Reply};
 pub use case::Case;
 pub use session::{Unheard, hear};

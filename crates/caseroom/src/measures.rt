@@ -9,6 +9,7 @@ use opening::undecided;
 
 impl Case {
     /// How many pairs of operations the opening order lacks, m.
+    #[tactic(auto, unfolding(theory::specs::Order::missing))]
     pub fn missing(&self) -> u32
         ensures { result ≡ missing_in (events self.now.given) (at_first self.now.given) }
     {

@@ -7,8 +7,7 @@ ghost use Rattle.desk.specs.Model.{at_first, model};
 ghost use Rattle.caseroom.specs.Replied.{HeardBy};
 ghost use Rattle.caseroom.specs.Heard.{heard, said};
 
-use super::answers::{known, made, supposed, told};
-use super::calls::{Answer, Call};
+use super::calls::{Answer, Call, Reply};
 use super::case::Case;
 use execution::Execution;
 use field::Refusal;
@@ -16,16 +15,21 @@ use rulebook::RuleBook;
 
 impl Case {
     /// Hears one call, of whatever kind.
+    #[tactic(auto, using(theory::specs::Case::single))]
     fn hear_one(&mut self, call: Call) -> Answer
         ensures heard { HeardBy self.old.given self.old.desk (heard call.entry) (said result) self.new.desk }
         ensures same { self.new.given ≡ self.old.given }
     {
         match call {
-            Call::Claim(claim) => told(self.claim(claim)),
-            Call::Order(order) => told(self.order(order)),
-            Call::House(turns) => made(self.house(turns)),
-            Call::WhatIf { a, b } => supposed(self.what_if(a, b)),
-            Call::Least { a, b } => known(self.least(a, b)),
+            Call::Claim(claim) => self.claim(claim).map(|()| Reply::Admitted),
+            Call::Order(order) => self.order(order).map(|()| Reply::Admitted),
+            Call::House(budget) => self
+                .house(budget)
+                .map(|(turns, state)| Reply::Made(turns, state)),
+            Call::WhatIf { a, b } => self
+                .what_if(a, b)
+                .map(|(added, cycle)| Reply::Supposed { added, cycle }),
+            Call::Least { a, b } => self.least(a, b).map(Reply::Says),
         }
     }
 }
@@ -55,8 +59,9 @@ pub fn hear<B: RuleBook>(
         });
     }
     let mut case = Case::open(execution, book);
-    for i in 0..calls.len() {
-        answers[i] = case.hear_one(calls[i]);
+    // by index: what holds at each step is a fact about the first i calls and the first i answers
+    for (i, call) in calls.iter().enumerate() {
+        answers[i] = case.hear_one(*call);
     }
     Ok(case)
 }

@@ -4,7 +4,8 @@ ghost use Rattle.std.specs.Prelude.{◌≡◌, ◌<◌, length};
 ghost use Rattle.theory.specs.Order.{Settled};
 ghost use Rattle.theory.specs.Case.{what_if};
 ghost use Rattle.desk.specs.Model.{events, model};
-ghost use Rattle.caseroom.specs.Replied.{Replied, Found, supposed_of};
+ghost use Rattle.rules.specs.Trials.{Found};
+ghost use Rattle.caseroom.specs.Replied.{Replied, supposed_of};
 
 use super::case::Case;
 use super::names::names_both;

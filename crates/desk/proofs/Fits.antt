@@ -6,12 +6,9 @@ use native.Mathlib.Bridge.{le_prop}
 use Rattle.execution.specs.declared.operation.Operation.{Operation}
 use Rattle.theory.specs.Order.{Rows}
 use Rattle.theory.specs.Case.{Choice, Model}
-use Rattle.theory.specs.Promises.{Reached, FewChoices}
+use Rattle.theory.specs.Promises.{Reached}
 use Rattle.theory.proofs.Kept.{choices_fit}
 use Rattle.desk.specs.Judged.{Named, Fit}
-
-pub few_fit : (E : List Operation) (O : Rows) (M : Model) → FewChoices E O M → Fit E M
-few_fit E O M f = record { within = f.within; room = f.room }
 
 named_prop : (n : ℕ) (cs : List Choice) → Prim.IsProp (Named n cs)
 named_prop n [] = Unit-prop

@@ -1,5 +1,4 @@
 pub mod Lawful
 pub mod Fits
 pub mod Replies
-mod Sizes
 mod Stack

@@ -1,7 +1,7 @@
 -- What a claim does to a desk is a reply of the case.
-use Rattle.std.proofs.Common.{◌≡◌, ℕ, Bool, T, Some, None, Option, Result, sym, refl, subst}
+use Rattle.std.proofs.Common.{◌≡◌, ℕ, Bool, T, Some, None, Option, Result, refl}
 use Rattle.field.specs.declared.refusal.Refusal.{Refusal}
-use Rattle.theory.specs.Case.{is_claim, refused, admitted, refusal, after, Replies, turned_away, taken}
+use Rattle.theory.specs.Case.{is_claim, refusal, after, Replies, turned_away, taken}
 use Rattle.rules.specs.declared.claim.Claim.{Claim}
 use Rattle.rules.specs.declared.claim.Claim.TheVariants as claim
 use Rattle.rules.specs.Claims.{call_of}
@@ -21,12 +21,8 @@ is_one claim.Close = tt
 module _ (L : ℕ → ℕ → Bool) (g : Given) (c : Claim) (pre : Desk) (r : Result (Unit {0}) Refusal) (post : Desk) where
   replies_by : (o : Option Refusal) → refusal (events g) (model g pre) (call_of c) ≡ o → By o g (after (events g) (model g pre) (call_of c)) pre r post
       → Replies L (events g) (model g pre) (call_of c) (answer_of r) (model g post)
-  replies_by (Some e) h j =
-      subst (λ x. Replies L (events g) (model g pre) (call_of c) (answer_of x) (model g post)) (sym j.0)
-      (subst (λ d. Replies L (events g) (model g pre) (call_of c) (refused e) (model g d)) (sym j.1) (turned_away h))
-  replies_by None h j =
-      subst (λ x. Replies L (events g) (model g pre) (call_of c) (answer_of x) (model g post)) (sym j.0)
-      (subst (Replies L (events g) (model g pre) (call_of c) admitted) (sym j.1) (taken (is_one c) h))
+  replies_by (Some e) h j = rw j.0 (rw j.1 (turned_away h))
+  replies_by None h j = rw j.0 (rw j.1 (taken (is_one c) h))
 
   pub replies : Judged g (call_of c) pre r post → Replies L (events g) (model g pre) (call_of c) (answer_of r) (model g post)
   replies j = replies_by (refusal (events g) (model g pre) (call_of c)) refl j

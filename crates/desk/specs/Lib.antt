@@ -1,3 +1,4 @@
 pub mod Local
 pub mod Model
 pub mod Judged
+pub mod Words

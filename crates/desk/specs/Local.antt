@@ -5,7 +5,7 @@ use Rattle.execution.specs.Operations.{op}
 use Rattle.execution.specs.Calls.{ops}
 use Rattle.rulebook.specs.Books.{access_of, conflict}
 use Rattle.order.specs.declared.order.Order.{Order}
-use Rattle.rules.specs.Claims.{rows_of}
+use Rattle.order.specs.Rows.{rows_of}
 use Rattle.theory.specs.Order.{before}
 use Rattle.theory.specs.Serial.{from_start, program}
 

@@ -2,7 +2,8 @@
 use Rattle.std.specs.Prelude.{ℕ, Bool, List, [], map, reverse, length, take}
 use Rattle.execution.specs.declared.operation.Operation.{Operation}
 use Rattle.execution.specs.Calls.{ops}
-use Rattle.rules.specs.Claims.{rows_of}
+use Rattle.room.specs.Held.{held}
+use Rattle.order.specs.Rows.{rows_of}
 use Rattle.theory.specs.Order.{Rows}
 use Rattle.theory.specs.Case as theory
 use Rattle.theory.specs.Case.{Model}
@@ -38,9 +39,9 @@ side_of Second = theory.second
 abbrev pub choice_of : ℕ → Choice → theory.Choice
 choice_of n c = record { one = c.one; other = c.other; side = side_of c.side; stood = take n c.stood.rows }
 
--- the choices that stand, latest first: the first d of the room
-abbrev pub stacked : ℕ → List Choice → ℕ → List theory.Choice
-stacked n cs d = map (choice_of n) (reverse (take d cs))
+-- the choices that stand, latest first
+abbrev pub stacked : ℕ → List Choice → List theory.Choice
+stacked n cs = map (choice_of n) (reverse cs)
 
 -- the order that was admitted, in a case that is serial
 abbrev pub witness_of : State → List ℕ → List ℕ
@@ -52,7 +53,7 @@ witness_of Impossible σ = []
 abbrev pub model : Given → Desk → Model
 model g d = record {
   order = rows_of g.execution d.order;
-  choices = stacked (length (events g)) d.choices d.depth;
+  choices = stacked (length (events g)) (held d.choices);
   state = state_of d.state;
   witness = witness_of d.state (take (length (events g)) d.admitted);
 }

@@ -3,14 +3,14 @@
 use order::Order;
 
 /// Which way of a choice is under trial: `one` before `other`, or `other` before `one`.
-#[derive(Clone, Copy)]
+#[derive(Debug, Clone, Copy, PartialEq, Eq)]
 pub(crate) enum Side {
     First,
     Second,
 }
 
 /// A choice that stands. It keeps the order as it stood before the choice, since undoing it goes back to that.
-#[derive(Clone, Copy)]
+#[derive(Debug, Clone, Copy, PartialEq, Eq)]
 pub(crate) struct Choice {
     pub(super) one: u8,
     pub(super) other: u8,

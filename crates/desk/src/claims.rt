@@ -7,7 +7,6 @@ ghost use Rattle.desk.specs.Judged.{Fit, Judged};
 use super::desk::Desk;
 use super::given::Given;
 use super::questions::{names, premise, stands};
-use super::rows::{cyclic, record, source};
 use super::state::State;
 use field::Refusal;
 use rules::Claim;
@@ -23,23 +22,24 @@ impl Desk {
             (State::Serial | State::Impossible, _) => Err(Refusal::CaseEnded),
             _ if !premise(given, &self.order, claim) => Err(Refusal::PremiseFails),
             _ if stands(given, &self.order, claim) => Err(Refusal::PairRecorded),
+            // Three arms, and not one with `Claim::pair`: beside a state, an arm for several claims has no fact that tells which of them it took.
             (State::Open, Claim::A { load, store }) => {
-                record(given, &mut self.order, store, source(given, load));
+                given.record(&mut self.order, store, given.source(load));
                 Ok(())
             }
             (State::Open, Claim::B { load, store }) => {
-                record(given, &mut self.order, load, store);
+                given.record(&mut self.order, load, store);
                 Ok(())
             }
             (State::Open, Claim::C { a, b, .. }) => {
-                record(given, &mut self.order, a, b);
+                given.record(&mut self.order, a, b);
                 Ok(())
             }
             (State::Open, Claim::Split { s, t }) => {
                 self.choose(given, s, t);
                 Ok(())
             }
-            (State::Open, Claim::Close) if !cyclic(given, &self.order) => Err(Refusal::NoCycle),
+            (State::Open, Claim::Close) if !given.cyclic(&self.order) => Err(Refusal::NoCycle),
             (State::Open, Claim::Close) => {
                 self.undo(given);
                 Ok(())

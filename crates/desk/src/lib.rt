@@ -12,6 +12,7 @@ mod questions;
 mod rows;
 mod state;
 mod undo;
+mod words;
 
 pub use desk::Desk;
 pub use given::Given;

@@ -2,7 +2,7 @@
 
 ghost use Rattle.std.specs.Prelude.{◌≡◌};
 ghost use Rattle.execution.specs.Calls.{ops};
-ghost use Rattle.rules.specs.Claims.{rows_of};
+ghost use Rattle.order.specs.Rows.{rows_of};
 ghost use Rattle.theory.specs.Serial.{LawfulOrder};
 ghost use Rattle.theory.specs.Case.{opened};
 ghost use Rattle.desk.specs.Local.{relation};
@@ -14,6 +14,7 @@ use super::given::Given;
 use super::state::State;
 use execution::Execution;
 use order::Order;
+use room::Room;
 
 impl Given {
     /// What a case over this execution is opened with.
@@ -36,8 +37,8 @@ impl Desk {
     pub fn new(opening: &Order) -> Desk
         ensures { (g : Given) → model g result ≡ opened (rows_of g.execution opening.now) }
     {
-        // what stands in the room past the choices is never read
-        let none = Choice {
+        // what fills the room is never read
+        let blank = Choice {
             one: 0,
             other: 0,
             side: Side::First,
@@ -45,8 +46,7 @@ impl Desk {
         };
         Desk {
             order: *opening,
-            choices: [none; 496],
-            depth: 0,
+            choices: Room::new(blank),
             state: State::Open,
             admitted: [0; 32],
         }

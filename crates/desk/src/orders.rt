@@ -15,6 +15,7 @@ impl Desk {
         requires still_open { self.old.state ≡ State.Open }
         ensures { model given.now self.new ≡ after (events given.now) (model given.now self.old) (propose order.now) }
     {
+        // a copy is written and put back whole, so that the fact beside the array holds at each step
         let mut admitted = self.admitted;
         admitted[..order.len()].copy_from_slice(order);
         self.admitted = admitted;

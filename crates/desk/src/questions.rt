@@ -1,15 +1,16 @@
-//! What is asked of a claim before it is taken. Orders are passed, so that one kept on trial can be asked about too.
+//! What is asked of a claim before it is taken. Orders are passed, so that a question names the order that it is about.
 
-ghost use Rattle.std.specs.Prelude.{◌≡◌, ℕ, ◌<◌, true, not, ◌&&◌, map, length, ◌==◌, nat_le};
-ghost use Rattle.execution.specs.Operations.{load_at, same_address, source as source_in};
-ghost use Rattle.rules.specs.Claims.{rows_of, call_of};
+ghost use Rattle.std.specs.Prelude.{◌≡◌, true, not, map, length, nat_le};
+ghost use Rattle.execution.specs.Calls.{ops};
+ghost use Rattle.order.specs.Rows.{rows_of};
+ghost use Rattle.rules.specs.Claims.{call_of, crossed};
 ghost use Rattle.theory.specs.Lists.{any};
 ghost use Rattle.theory.specs.Case.{named, premise, stands};
 ghost use Rattle.desk.specs.Model.{events};
 ghost use Rattle.desk.specs.Judged.{Ranged};
 
 use super::given::Given;
-use super::rows::{before, size, source};
+use execution::Execution;
 use order::Order;
 use rules::Claim;
 
@@ -18,10 +19,9 @@ pub fn names(given: &Given, claim: Claim) -> bool
     ensures is { result ≡ not (any (map (λ a. nat_le (length (events given.now)) a) (named (call_of claim)))) }
     ensures ranged { result ≡ true → Ranged (length (events given.now)) claim }
 {
-    let n = size(given);
+    let n = given.execution.len() as u8;
     match claim {
-        Claim::A { load, store } => load < n && store < n,
-        Claim::B { load, store } => load < n && store < n,
+        Claim::A { load, store } | Claim::B { load, store } => load < n && store < n,
         Claim::C {
             first,
             second,
@@ -33,18 +33,15 @@ pub fn names(given: &Given, claim: Claim) -> bool
     }
 }
 
+// The finders of `rules` ask the same of the claims that they list themselves, with the sources at hand; here it is asked of any claim.
 /// Are these loads of one address that saw different stores?
-fn disagree(given: &Given, first: u8, second: u8) -> bool
-    requires first_in_bounds { first < length (events given.now) }
-    requires second_in_bounds { second < length (events given.now) }
-    ensures { result ≡ (load_at (events given.now) first && load_at (events given.now) second && same_address (events given.now) first second && not (source_in (events given.now) first == source_in (events given.now) second)) }
+fn disagree(execution: &Execution, first: usize, second: usize) -> bool
+    ensures { result ≡ crossed (ops execution.now) first second }
 {
-    given.execution.source(usize::from(first)).is_some()
-        && given.execution.source(usize::from(second)).is_some()
-        && given
-            .execution
-            .same_address(usize::from(first), usize::from(second))
-        && source(given, first) != source(given, second)
+    match (execution.source(first), execution.source(second)) {
+        (Some(one), Some(other)) => one != other && execution.same_address(first, second),
+        _ => false,
+    }
 }
 
 /// Do the premises of the claim hold: those of its rule, and for a split that it is between different stores to one address?
@@ -56,12 +53,12 @@ pub fn premise(given: &Given, order: &Order, claim: Claim) -> bool
     match claim {
         Claim::A { load, store } => {
             execution.touches(usize::from(store), usize::from(load))
-                && store != source(given, load)
-                && before(given, order, store, load)
+                && store != given.source(load)
+                && given.before(order, store, load)
         }
         Claim::B { load, store } => {
             execution.touches(usize::from(store), usize::from(load))
-                && before(given, order, source(given, load), store)
+                && given.before(order, given.source(load), store)
         }
         Claim::C {
             first,
@@ -69,11 +66,11 @@ pub fn premise(given: &Given, order: &Order, claim: Claim) -> bool
             a,
             b,
         } => {
-            disagree(given, first, second)
-                && before(given, order, a, first)
-                && before(given, order, a, second)
-                && before(given, order, source(given, first), b)
-                && before(given, order, source(given, second), b)
+            disagree(execution, usize::from(first), usize::from(second))
+                && given.before(order, a, first)
+                && given.before(order, a, second)
+                && given.before(order, given.source(first), b)
+                && given.before(order, given.source(second), b)
         }
         Claim::Split { s, t } => execution.rivals(usize::from(s), usize::from(t)),
         Claim::Close => true,
@@ -86,10 +83,10 @@ pub fn stands(given: &Given, order: &Order, claim: Claim) -> bool
     ensures { result ≡ stands (events given.now) (rows_of given.now.execution order.now) (call_of claim) }
 {
     match claim {
-        Claim::A { load, store } => before(given, order, store, source(given, load)),
-        Claim::B { load, store } => before(given, order, load, store),
-        Claim::C { a, b, .. } => before(given, order, a, b),
-        Claim::Split { s, t } => before(given, order, s, t) || before(given, order, t, s),
+        Claim::A { load, store } => given.before(order, store, given.source(load)),
+        Claim::B { load, store } => given.before(order, load, store),
+        Claim::C { a, b, .. } => given.before(order, a, b),
+        Claim::Split { s, t } => given.before(order, s, t) || given.before(order, t, s),
         Claim::Close => false,
     }
 }

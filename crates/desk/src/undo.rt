@@ -8,7 +8,6 @@ ghost use Rattle.desk.specs.Judged.{Fit};
 use super::choice::{Choice, Side};
 use super::desk::Desk;
 use super::given::Given;
-use super::rows::record;
 use super::state::State;
 
 impl Desk {
@@ -19,19 +18,16 @@ impl Desk {
         requires still_open { self.old.state ≡ State.Open }
         ensures { model given.now self.new ≡ undone (model given.now self.old).order (model given.now self.old).choices }
     {
-        while self.depth > 0 {
-            let latest = self.depth - 1;
-            let choice = self.choices[latest];
+        while let Some(choice) = self.choices.pop() {
             self.order = choice.stood;
-            if let Side::First = choice.side {
-                record(given, &mut self.order, choice.other, choice.one);
-                self.choices[latest] = Choice {
+            if choice.side == Side::First {
+                given.record(&mut self.order, choice.other, choice.one);
+                self.choices.push(Choice {
                     side: Side::Second,
                     ..choice
-                };
+                });
                 return;
             }
-            self.depth = latest;
         }
         self.state = State::Impossible;
     }

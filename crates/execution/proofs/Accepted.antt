@@ -1,27 +1,26 @@
 -- An accepted record: its operations keep the rules, and it is their writing.
-use Rattle.std.proofs.Common.{◌≡◌, ℕ, zero, suc, ◌+◌, ◌*◌, ◌/◌, ◌%◌, ◌<◌, ◌≤◌, Bool, true, false, cond, not, ◌&&◌, ◌||◌, T, eqb, ltb, leb, List, [], ◌∷◌, ◌++◌, length, get_or, take, drop, Ok, Err, Result, sym, refl, ap, ◌∙◌, subst, inl, inr, append_assoc, append-nil, arith, rules}
+use Rattle.std.proofs.Common.{◌≡◌, ℕ, zero, suc, ◌+◌, ◌*◌, ◌/◌, ◌%◌, ◌<◌, ◌≤◌, Bool, true, cond, not, T, eqb, List, [], ◌∷◌, ◌++◌, length, get_or, take, drop, Ok, Err, Result, sym, refl, ap, ◌∙◌, subst, inl, inr, append_assoc, append-nil, arith, rules}
 use Rattle.std.proofs.lemmas.List.{same_lists, places, take-append-drop, get_or-drop, length_push, nil_from_length}
-use Rattle.std.proofs.lemmas.Bool.{cases_eq, and_from, eqb-true, leb-false, le-leb, not_from_true, not_from_false}
+use Rattle.std.proofs.lemmas.Bool.{cases_eq, and_from, eqb-true}
 use Rattle.std.proofs.lemmas.Bool.Decides.{nat_tests}
 use Rattle.field.specs.declared.fault.Layer.TheVariants as layer
 use Rattle.field.specs.declared.fault.Fault.{Fault}
 use Rattle.field.specs.Fields.{body_of, expected}
 use Rattle.field.specs.Faults.{moved, and_then}
 use Rattle.field.proofs.Expected.{unless_ok, and_then_ok, Stands, expected_ok, body_at}
-use Rattle.execution.specs.declared.operation.Action.{Action}
-use Rattle.execution.specs.declared.operation.Action.TheVariants as act
 use Rattle.execution.specs.declared.operation.Operation.{Operation}
 use Rattle.execution.specs.Operations.{op}
-use Rattle.execution.specs.Formed.{some, follows, in_turn, sourced, formed?}
+use Rattle.execution.specs.Formed.{follows, in_turn, sourced, formed?}
 use Rattle.execution.specs.Writing.{kind_byte, address_number, source_byte, dependence_byte, field_of, fields_of, writing}
-use Rattle.execution.specs.Reading.{action_of, dependence_of, thread_in, kind_in, address_in, source_in, dependence_in, operation_of, body_refusal, operation_from, operation_in, edition_from, edition_in, read_from, operations_in, may_see, source_at, sources_from, record_in}
+use Rattle.execution.specs.Reading.{action_of, thread_in, kind_in, address_in, source_in, dependence_in, operation_of, body_refusal, operation_from, operation_in, edition_from, edition_in, read_from, operations_in, may_see, source_at, sources_from, record_in}
 use Rattle.execution.proofs.Walk.{walk_on, walk_end, wrong_source, moved_ok}
-use Rattle.execution.proofs.Judged.{Sound, not_refused, sound_follows}
+use Rattle.execution.proofs.Judged.{Free, room, stands, kind_back, address_back, dependence_back}
+use Rattle.execution.proofs.Listed.{some_none}
 
 -- a field that was read: all of it, what it says, and that it may stand there
 pub record Read (E : List Operation) (s : List ℕ) (o : Operation) : Type 0 where
   pub stands : Stands s 17 6 (body_of s)
-  pub sound : Sound E (thread_in (body_of s)) (kind_in (body_of s)) (address_in (body_of s)) (dependence_in (body_of s))
+  pub free : Free E (body_of s)
   pub says : operation_of (body_of s) ≡ o
 
 pub operation_ok : (E : List Operation) (s : List ℕ) (o : Operation) → operation_in E s ≡ Ok o → Read E s o
@@ -31,7 +30,7 @@ operation_ok E s o h =
     let x = expected_ok s 17 6 layer.Record b r.1 in
     let f : operation_from E (body_of s) ≡ Ok o = ap (operation_from E) (sym x.body) ∙ r.2 in
     let u = unless_ok (body_refusal E (thread_in (body_of s)) (kind_in (body_of s)) (address_in (body_of s)) (dependence_in (body_of s))) layer.Record (operation_of (body_of s)) o f in
-    record { stands = record { long = x.long; tagged = x.tagged; sized = x.sized; body = refl }; sound = not_refused E _ _ _ _ u.0; says = u.1 }
+    record { stands = record { long = x.long; tagged = x.tagged; sized = x.sized; body = refl }; free = u.0; says = u.1 }
 
 -- the operations G, read one after the other from s, after E
 abbrev pub Fields : List Operation → List Operation → List ℕ → Type 0
@@ -57,7 +56,7 @@ walked_on n again E s at F e h z =
     let o = r.0 in
     let read = operation_ok E s o (moved_ok at (operation_in E s) o r.1) in
     let l = length_push E o in
-    let room = leb-false 32 (length E) read.sound.room in
+    let few = room E (body_of s) read.free in
     let next = again (E ++ o ∷ []) (drop 9 s) (at + 9) F (omega arith) (omega arith) r.2 in
     (o ∷ next.0, next.1 ∙ append_assoc E (o ∷ []) next.0, next.2, (read, next.3))
 
@@ -68,7 +67,7 @@ walked (suc n) E s at F e few h = elim (cases_eq (length s) 0) [ inl z ↦ walke
 pub fields_in_turn : (E G : List Operation) (s : List ℕ) → Fields E G s → in_turn E G ≡ true
 fields_in_turn E [] s f = refl
 fields_in_turn E (o ∷ G) s f =
-    and_from (follows E o) _ (subst (λ x. follows E x ≡ true) f.0.says (sound_follows E _ _ _ _ f.0.sound _)) (fields_in_turn (E ++ o ∷ []) G (drop 9 s) f.1)
+    and_from (follows E o) _ (subst (λ x. follows E x ≡ true) f.0.says (stands E (body_of s) f.0.free)) (fields_in_turn (E ++ o ∷ []) G (drop 9 s) f.1)
 
 -- the source byte of the operation k
 abbrev pub byte_of_source : List ℕ → ℕ → ℕ
@@ -88,8 +87,7 @@ fields_sources E (o ∷ G) s f (suc k) h =
 
 -- sources that are all right
 source_first : (E : List Operation) (s : List ℕ) (k : ℕ) (rest : Result (Unit {0}) Fault) (t : Bool) → cond t rest (Err (wrong_source k)) ≡ Ok tt → (t ≡ true) × (rest ≡ Ok tt)
-source_first E s k rest true h = (refl, h)
-source_first E s k rest false h = let z : ◌≡◌ {A = ℕ} 0 1 = cc in absurd (omega arith)
+source_first E s k rest t h = (grind arith, grind arith)
 
 pub sources_ok : (n : ℕ) (E : List Operation) (s : List ℕ) (k : ℕ) → sources_from n E s k ≡ Ok tt → (j : ℕ) → k ≤ j → j < k + n → may_see E (source_at s j) (op E j).action ≡ true
 sources_ok zero E s k h j a b = absurd (omega arith)
@@ -98,28 +96,11 @@ sources_ok (suc n) E s k h j a b =
     elim (cases_eq k j) [ inl e ↦ subst (λ m. may_see E (source_at s m) (op E m).action ≡ true) e p.0 | inr d ↦ sources_ok n E s (k + 1) p.1 j (omega arith) (omega arith) ]
 
 -- a byte that may stand for the source of an action is the action's own
-seen_by : (F : List Operation) (x b : ℕ) (p q r : Bool) → let a = cond p (act.Load x b) (cond q (act.Store x) (cond r act.Fence act.Branch)) in may_see F b a ≡ true → (source_byte a ≡ b) × (sourced F a ≡ true)
-seen_by F x b true q r h = (refl, h)
-seen_by F x b false true r h = (sym (eqb-true b 255 h), refl)
-seen_by F x b false false true h = (sym (eqb-true b 255 h), refl)
-seen_by F x b false false false h = (sym (eqb-true b 255 h), refl)
-
-pub seen_right : (F : List Operation) (i x b : ℕ) (a : Action) → a ≡ action_of i x b → may_see F b a ≡ true → (source_byte a ≡ b) × (sourced F a ≡ true)
-seen_right F i x b a e h =
-    let r = seen_by F x b (eqb i 1) (eqb i 2) (eqb i 3) (subst (λ v. may_see F b v ≡ true) e h) in
-    (ap source_byte e ∙ r.0, ap (sourced F) e ∙ r.1)
+seen_right : (F : List Operation) (i x b : ℕ) → may_see F b (action_of i x b) ≡ true → (source_byte (action_of i x b) ≡ b) × (sourced F (action_of i x b) ≡ true)
+seen_right F i x b h = (grind (arith, nat_tests), grind (arith, nat_tests))
 
 nine : (s : List ℕ) → 9 ≤ length s → take 9 s ≡ get_or s 0 0 ∷ get_or s 1 0 ∷ get_or s 2 0 ∷ get_or s 3 0 ∷ get_or s 4 0 ∷ get_or s 5 0 ∷ get_or s 6 0 ∷ get_or s 7 0 ∷ get_or s 8 0 ∷ []
 nine s h = same_lists _ _ (search (rules, places)) (λ k d l. grind (arith, places))
-
-kind_back : (i x b : ℕ) → (eqb i 0 || ltb 4 i) ≡ false → kind_byte (action_of i x b) ≡ i
-kind_back i x b h = grind (arith, nat_tests)
-
-address_back : (i x b : ℕ) → (eqb i 0 || ltb 4 i) ≡ false → (ltb 2 i && not (eqb x 0)) ≡ false → address_number (action_of i x b) ≡ x
-address_back i x b h g = grind (arith, nat_tests)
-
-dependence_back : (d : ℕ) → dependence_byte (dependence_of d) ≡ d
-dependence_back d = grind (arith, nat_tests)
 
 -- nine bytes are the field of the operation that they say, once its source is right
 block : (E : List Operation) (s : List ℕ) (o : Operation) → Read E s o → ((i : ℕ) → get_or s i 0 < 256) → source_byte o.action ≡ get_or s 7 0 → take 9 s ≡ field_of o
@@ -135,12 +116,12 @@ block E s o r fit src =
     let b3 = body_at s 3 (omega arith) in
     let b5 = body_at s 5 (omega arith) in
     let o3 : o.thread ≡ get_or s 3 0 = ap (λ x. x.thread) (sym r.says) ∙ b0 in
-    let o4 : kind_byte o.action ≡ get_or s 4 0 = ap (λ x. kind_byte x.action) (sym r.says) ∙ kind_back (kind_in b) (address_in b) (source_in b) r.sound.kind ∙ b1 in
-    let ad : address_number o.action ≡ address_in b = ap (λ x. address_number x.action) (sym r.says) ∙ address_back (kind_in b) (address_in b) (source_in b) r.sound.kind r.sound.address in
+    let o4 : kind_byte o.action ≡ get_or s 4 0 = ap (λ x. kind_byte x.action) (sym r.says) ∙ kind_back E b r.free ∙ b1 in
+    let ad : address_number o.action ≡ address_in b = ap (λ x. address_number x.action) (sym r.says) ∙ address_back E b r.free in
     let f6 = fit 6 in
     let o5 : address_number o.action / 256 ≡ get_or s 5 0 = omega arith in
     let o6 : address_number o.action % 256 ≡ get_or s 6 0 = omega arith in
-    let o8 : dependence_byte o.dependence ≡ get_or s 8 0 = ap (λ x. dependence_byte x.dependence) (sym r.says) ∙ dependence_back (dependence_in b) ∙ b5 in
+    let o8 : dependence_byte o.dependence ≡ get_or s 8 0 = ap (λ x. dependence_byte x.dependence) (sym r.says) ∙ dependence_back E b r.free ∙ b5 in
     let n = nine s r.stands.long in
     cc
 
@@ -153,13 +134,6 @@ fields_back E (o ∷ G) s f fit src =
     let src' : (k : ℕ) → k < length G → source_byte (op G k).action ≡ byte_of_source (drop 9 s) k = λ k h. (let n : 9 * suc k + 7 ≡ 9 + (9 * k + 7) = omega arith in src (suc k) (omega arith) ∙ ap (λ m. get_or s m 0) n ∙ sym (get_or-drop 9 s (9 * k + 7) 0)) in
     let rest = fields_back (E ++ o ∷ []) G (drop 9 s) f.1 fit' src' in
     sym (take-append-drop 9 s) ∙ ap (λ w. w ++ drop 9 s) first ∙ ap (λ w. field_of o ++ w) rest
-
-pub some_none : (p : ℕ → Bool) (n : ℕ) → ((k : ℕ) → k < n → p k ≡ false) → some n p ≡ false
-some_none p zero h = refl
-some_none p (suc n) h = ap (λ b. b || some n p) (h n (omega arith)) ∙ some_none p n (λ k l. h k (omega arith))
-
-pub true_T : (b : Bool) → b ≡ true → T b
-true_T b e = subst T (sym e) tt
 
 -- an accepted record, and its four first bytes
 module _ (s : List ℕ) (F : List Operation) (h : operations_in s ≡ Ok F) (g : sources_from (length F) F s 0 ≡ Ok tt) where
@@ -174,14 +148,15 @@ module _ (s : List ℕ) (F : List Operation) (h : operations_in s ≡ Ok F) (g :
       let r = fields_sources [] F (drop 4 s) read_fields k l in
       let n : 4 + 9 * k + 7 ≡ 4 + (9 * k + 7) = omega arith in
       let same : source_at s k ≡ byte_of_source (drop 4 s) k = ap (λ m. get_or s m 0) n ∙ sym (get_or-drop 4 s (9 * k + 7) 0) in
-      seen_right F r.0 r.1 (byte_of_source (drop 4 s) k) (op F k).action r.2 (subst (λ b. may_see F b (op F k).action ≡ true) same (sources_ok (length F) F s 0 g k (omega arith) (omega arith)))
+      let sees = subst (λ b. may_see F b (op F k).action ≡ true) same (sources_ok (length F) F s 0 g k (omega arith) (omega arith)) in
+      subst (λ a. (source_byte a ≡ byte_of_source (drop 4 s) k) × (sourced F a ≡ true)) (sym r.2) (seen_right F r.0 r.1 (byte_of_source (drop 4 s) k) (subst (λ a. may_see F (byte_of_source (drop 4 s) k) a ≡ true) r.2 sees))
 
   pub accepted_formed : T (formed? F)
   accepted_formed =
-      true_T (formed? F)
-      (and_from (leb (length F) 32) _ (le-leb (length F) 32 got.2)
-      (and_from (in_turn [] F) _ (fields_in_turn [] F (drop 4 s) read_fields)
-      (not_from_false _ (some_none (λ k. not (sourced F (op F k).action)) (length F) (λ k l. not_from_true _ (right k l).1)))))
+      let few = got.2 in
+      let turn = fields_in_turn [] F (drop 4 s) read_fields in
+      let seen = some_none (λ k. not (sourced F (op F k).action)) (length F) (λ k l. (let h = (right k l).1 in grind arith)) in
+      grind (arith, nat_tests)
 
   pub accepted_fields : ((i : ℕ) → get_or s i 0 < 256) → drop 4 s ≡ fields_of F
   accepted_fields fit = fields_back [] F (drop 4 s) read_fields (λ i. subst (λ v. v < 256) (sym (get_or-drop 4 s i 0)) (fit (4 + i))) (λ k l. (right k l).0)
@@ -190,8 +165,7 @@ four : (s : List ℕ) → 4 ≤ length s → take 4 s ≡ get_or s 0 0 ∷ get_o
 four s h = same_lists _ _ (search (rules, places)) (λ k d l. grind (arith, places))
 
 edition_one : (t : Bool) (e : Fault) → ◌≡◌ {A = Result (Unit {0}) Fault} (cond t (Ok tt) (Err e)) (Ok tt) → t ≡ true
-edition_one true e h = refl
-edition_one false e h = let z : ◌≡◌ {A = ℕ} 0 1 = cc in absurd (omega arith)
+edition_one t e h = grind arith
 
 edition_bytes : (s : List ℕ) → edition_in s ≡ Ok tt → take 4 s ≡ 16 ∷ 0 ∷ 1 ∷ 1 ∷ []
 edition_bytes s h =

@@ -1,5 +1,5 @@
 -- What a reading promises, from what the bytes say.
-use Rattle.std.proofs.Common.{◌≡◌, ℕ, T, List, Ok, Err, Result, sym, refl, ap, ◌∙◌, subst, arith}
+use Rattle.std.proofs.Common.{◌≡◌, ℕ, T, List, Ok, Err, Result, sym, refl, ap, ◌∙◌, subst}
 use Rattle.field.specs.declared.fault.Fault.{Fault}
 use Rattle.execution.specs.declared.operation.Operation.{Operation}
 use Rattle.execution.specs.declared.execution.Execution.{Execution}
@@ -17,7 +17,7 @@ module _ (s : List ℕ) where
   refused_taken x e h = subst (λ r. Taken r x (Err e) x) (sym h) (refl, refl)
 
   pub refused_same : (x : Execution) (e : Fault) → record_in s ≡ Err e → SameExecution s (Err e) x
-  refused_same x e h E f w = let o : Ok E ≡ Err e = sym (written_back E f w) ∙ h in let z : ◌≡◌ {A = ℕ} 0 1 = cc in absurd (omega arith)
+  refused_same x e h E f w = let o : Ok E ≡ Err e = sym (written_back E f w) ∙ h in absurd cc
 
   pub accepted_taken : (x y : Execution) → record_in s ≡ Ok (ops y) → Taken (record_in s) x (Ok tt) y
   accepted_taken x y h = subst (λ r. Taken r x (Ok tt) y) (sym h) (refl, refl)

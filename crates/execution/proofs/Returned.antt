@@ -1,40 +1,28 @@
 -- Reading what was written: the writing of an execution that keeps the rules is accepted, and says that execution.
-use Rattle.std.proofs.Common.{◌≡◌, ℕ, zero, suc, ◌+◌, ◌-◌, ◌*◌, ◌/◌, ◌%◌, ◌<◌, ◌≤◌, Bool, true, false, cond, not, T, ltb, leb, List, [], ◌∷◌, ◌++◌, length, get_or, Some, None, Ok, Err, Option, sym, refl, ap, ◌∙◌, inl, inr, append_assoc, append-nil, arith}
+use Rattle.std.proofs.Common.{◌≡◌, ℕ, zero, suc, ◌+◌, ◌-◌, ◌*◌, ◌/◌, ◌%◌, ◌<◌, ◌≤◌, true, false, not, T, List, [], ◌∷◌, ◌++◌, length, get_or, None, Ok, Option, sym, refl, ap, ◌∙◌, append_assoc, append-nil, arith}
 use Rattle.std.proofs.lemmas.List.{get_or-append-add, length_push}
-use Rattle.std.proofs.lemmas.Bool.{and_parts, not-true, not-false, or_parts, ltb-true, leb-true}
-use Rattle.std.proofs.lemmas.Bool.Decides.{eqb_tells}
+use Rattle.std.proofs.lemmas.Bool.{and_parts, not-false}
+use Rattle.std.proofs.lemmas.Bool.Decides.{nat_tests}
 use Rattle.field.specs.declared.fault.Layer.TheVariants as layer
 use Rattle.field.specs.Faults.{unless, and_then}
 use Rattle.field.specs.Fields.{body_of, expected}
 use Rattle.field.proofs.Expected.{ok_expected}
 use Rattle.execution.specs.declared.operation.Action.{Action}
-use Rattle.execution.specs.declared.operation.Action.TheVariants as act
 use Rattle.execution.specs.declared.operation.Operation.{Operation}
 use Rattle.execution.specs.Operations.{op}
 use Rattle.execution.specs.Formed.{some, follows, depends_well, in_turn, sourced, formed?}
 use Rattle.execution.specs.Writing.{kind_byte, address_number, source_byte, dependence_byte, field_of, fields_of, writing}
 use Rattle.execution.specs.Reading.{action_of, dependence_of, body_refusal, operation_from, operation_in, edition_from, edition_in, read_from, operations_in, may_see, source_at, sources_from, record_in}
-use Rattle.execution.proofs.Walk.{walk_more, walk_end, wrong_source}
-use Rattle.execution.proofs.Judged.{follows_sound, refused_not}
-
-pub T_true : (b : Bool) → T b → b ≡ true
-T_true true t = refl
-T_true false t = absurd t
+use Rattle.execution.proofs.Walk.{walk_more, walk_end}
+use Rattle.execution.proofs.Judged.{not_refused}
+use Rattle.execution.proofs.Listed.{some_false}
 
 action_back : (a : Action) → action_of (kind_byte a) (address_number a) (source_byte a) ≡ a
-action_back (act.Load x s) = refl
-action_back (act.Store x) = refl
-action_back act.Fence = refl
-action_back act.Branch = refl
+action_back a = grind arith
 
 -- a dependence that may stand there is not written as none
 dependence_back : (E : List Operation) (t : ℕ) (d : Option ℕ) → length E < 32 → depends_well E t d ≡ true → dependence_of (dependence_byte d) ≡ d
-dependence_back E t None few h = refl
-dependence_back E t (Some d) few h =
-    let p = and_parts (ltb 0 t) _ h in
-    let q = and_parts (ltb d (length E)) _ p.1 in
-    let l = ltb-true d (length E) q.0 in
-    elim (eqb_tells d 255) [ inl e ↦ absurd (let z = e.1 in omega arith) | inr e ↦ ap (λ b. cond b None (Some d)) e.0 ]
+dependence_back E t d few h = grind (arith, nat_tests)
 
 halves : (x : ℕ) → x / 256 * 256 + x % 256 ≡ x
 halves x = omega arith
@@ -48,8 +36,8 @@ field_back E o rest few f =
     let b = source_byte o.action in
     let d = dependence_byte o.dependence in
     let here : expected s 17 6 layer.Record ≡ Ok (body_of s) = ok_expected s 17 6 layer.Record (omega arith) refl refl in
-    let dep : depends_well E t o.dependence ≡ true = (and_parts _ _ (and_parts (leb t 8) _ f).1).1 in
-    let none : body_refusal E t k x d ≡ None = refused_not E t k x d (follows_sound E o few f) in
+    let dep : depends_well E t o.dependence ≡ true = grind arith in
+    let none : body_refusal E t k x d ≡ None = not_refused E o few f in
     let same : operation_from E (body_of s) ≡ unless (body_refusal E t k (x / 256 * 256 + x % 256) d) layer.Record (record { thread = t; action = action_of k (x / 256 * 256 + x % 256) b; dependence = dependence_of d }) = refl in
     ap (λ r. and_then r (operation_from E)) here ∙ same ∙ ap (λ v. unless (body_refusal E t k v d) layer.Record (record { thread = t; action = action_of k v b; dependence = dependence_of d })) (halves x)
     ∙ ap (λ n. unless n layer.Record (record { thread = t; action = action_of k x b; dependence = dependence_of d })) none
@@ -76,21 +64,14 @@ source_at_writing F k h =
     ap (λ m. get_or (writing F) m 0) n ∙ get_or-append-add (16 ∷ 0 ∷ 1 ∷ 1 ∷ []) (fields_of F) (9 * k + 7) 0 ∙ source_written F k h
 
 seen_own : (F : List Operation) (a : Action) → sourced F a ≡ true → may_see F (source_byte a) a ≡ true
-seen_own F (act.Load x s) h = h
-seen_own F (act.Store x) h = refl
-seen_own F act.Fence h = refl
-seen_own F act.Branch h = refl
+seen_own F a h = grind (arith, nat_tests)
 
 sources_back : (n : ℕ) (E : List Operation) (s : List ℕ) (k : ℕ) → ((j : ℕ) → k ≤ j → j < k + n → may_see E (source_at s j) (op E j).action ≡ true) → sources_from n E s k ≡ Ok tt
 sources_back zero E s k h = refl
 sources_back (suc n) E s k h =
-    ap (λ t. cond t (sources_from n E s (k + 1)) (Err (wrong_source k))) (h k (omega arith) (omega arith)) ∙ sources_back n E s (k + 1) (λ j a b. h j (omega arith) (omega arith))
-
-pub some_false : (p : ℕ → Bool) (n : ℕ) → some n p ≡ false → (k : ℕ) → k < n → p k ≡ false
-some_false p zero h k l = absurd (omega arith)
-some_false p (suc n) h k l =
-    let q = or_parts (p n) (some n p) h in
-    elim (eqb_tells k n) [ inl e ↦ ap p e.1 ∙ q.0 | inr e ↦ some_false p n q.1 k (let d = e.1 in omega arith) ]
+    let now = h k (omega arith) (omega arith) in
+    let rest = sources_back n E s (k + 1) (λ j a b. h j (omega arith) (omega arith)) in
+    grind arith
 
 edition_back : (E : List Operation) → edition_in (writing E) ≡ Ok tt
 edition_back E =
@@ -100,14 +81,12 @@ edition_back E =
 
 pub round_trip : (E : List Operation) → T (formed? E) → (edition_in (writing E) ≡ Ok tt) × (operations_in (writing E) ≡ Ok E) × (sources_from (length E) E (writing E) 0 ≡ Ok tt)
 round_trip E f =
-    let p = and_parts (leb (length E) 32) _ (T_true (formed? E) f) in
-    let q = and_parts (in_turn [] E) _ p.1 in
-    let few = leb-true (length E) 32 p.0 in
-    let src = some_false (λ k. not (sourced E (op E k).action)) (length E) (not-true _ q.1) in (
-      edition_back E,
-      walk_back [] E 4 33 (omega arith) (omega arith) q.0,
-      sources_back (length E) E (writing E) 0 (λ j a b. (let l : j < length E = omega arith in ap (λ v. may_see E v (op E j).action) (source_at_writing E j l) ∙ seen_own E (op E j).action (not-false (sourced E (op E j).action) (src j l)))),
-    )
+    let few : length E ≤ 32 = grind (arith, nat_tests) in
+    let turn : in_turn [] E ≡ true = grind arith in
+    let none : some (length E) (λ k. not (sourced E (op E k).action)) ≡ false = grind arith in
+    let sees : (j : ℕ) → j < length E → may_see E (source_at (writing E) j) (op E j).action ≡ true =
+    λ j l. ap (λ v. may_see E v (op E j).action) (source_at_writing E j l) ∙ seen_own E (op E j).action (not-false _ (some_false (λ k. not (sourced E (op E k).action)) (length E) none j l)) in
+    (edition_back E, walk_back [] E 4 33 (omega arith) (omega arith) turn, sources_back (length E) E (writing E) 0 (λ j a b. sees j (omega arith)))
 
 -- as one reading
 pub record_back : (E : List Operation) → T (formed? E) → record_in (writing E) ≡ Ok E

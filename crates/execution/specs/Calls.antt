@@ -3,15 +3,15 @@ use Rattle.std.specs.Prelude.{◌≡◌, ℕ, ◌+◌, ◌*◌, ◌<◌, ◌≤�
 use Rattle.field.specs.declared.refusal.Refusal.{Refusal}
 use Rattle.field.specs.declared.refusal.Refusal.TheVariants as refusal
 use Rattle.field.specs.declared.fault.Fault.{Fault}
+use Rattle.room.specs.Held.{held}
 use Rattle.execution.specs.declared.operation.Operation.{Operation}
 use Rattle.execution.specs.declared.execution.Execution.{Execution}
-use Rattle.execution.specs.Listings.{listed}
 use Rattle.execution.specs.Formed.{formed?}
 use Rattle.execution.specs.Writing.{writing}
 
 -- the operations of an execution
 abbrev pub ops : Execution → List Operation
-ops e = listed e.listing
+ops e = held e.listing
 
 -- reading takes what the bytes say: the execution is then that one; or it gives the one fault, and the execution is as it was
 abbrev pub Taken : Result (List Operation) Fault → Execution → Result (Unit {0}) Fault → Execution → Type 0

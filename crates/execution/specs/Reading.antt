@@ -55,6 +55,18 @@ body_refusal E t k x d =
     (cond (not (may_depend E t d)) (Some refusal.DependenceRule)
     None)))))
 
+-- the action that the bytes of a kind, an address and a source say, or why none may have them
+abbrev pub action_in : ℕ → ℕ → ℕ → Result Action Refusal
+action_in k x s =
+    cond (k == 0 || nat_lt 4 k) (Err refusal.UnknownKind)
+    (cond (nat_lt 2 k && not (x == 0)) (Err refusal.NeedlessAddress)
+    (Ok (action_of k x s)))
+
+-- a value, or why there is none
+abbrev pub unless_refused : {A : Type 0} → Option Refusal → A → Result A Refusal
+unless_refused None x = Ok x
+unless_refused (Some e) x = Err e
+
 -- the operation that a body says, after E
 abbrev pub operation_from : List Operation → List ℕ → Result Operation Fault
 operation_from E b = unless (body_refusal E (thread_in b) (kind_in b) (address_in b) (dependence_in b)) layer.Record (operation_of b)

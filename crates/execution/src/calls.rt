@@ -1,16 +1,16 @@
 //! What can be done with an execution.
 
-ghost use Rattle.std.specs.Prelude.{◌≡◌, ℕ, ◌+◌, ◌*◌, ◌<◌, ◌≤◌, List, [], length, IfErr, if◌then◌else◌, Some, None, nat_lt};
+ghost use Rattle.std.specs.Prelude.{◌≡◌, ◌≤◌, [], length, IfErr, if◌then◌else◌, Some, None, nat_lt};
 ghost use Rattle.execution.specs.Operations.{op};
 ghost use Rattle.execution.specs.Reading.{record_in};
 ghost use Rattle.execution.specs.Calls.{ops, Taken, SameBytes, SameExecution, Written};
 
 use super::execution::Execution;
-use super::listing::Listing;
-use super::operation::Operation;
+use super::operation::{BLANK, Operation};
 use super::read::read_listing;
 use super::write::{put_edition, put_operation};
 use field::{Fault, Refusal};
+use room::Room;
 
 impl Execution {
     /// No operations.
@@ -18,7 +18,7 @@ impl Execution {
         ensures { ops result ≡ [] }
     {
         Execution {
-            listing: Listing::new(),
+            listing: Room::new(BLANK),
         }
     }
 
@@ -33,11 +33,7 @@ impl Execution {
     pub fn operation(&self, number: usize) -> Option<Operation>
         ensures { result ≡ (if nat_lt number (length (ops self.now)) then Some (op (ops self.now) number) else None) }
     {
-        if number < self.len() {
-            Some(self.listing.at(number))
-        } else {
-            None
-        }
+        self.listing.held().get(number).copied()
     }
 
     /// Takes over what the bytes of a record say, whole; a refused record leaves the execution as it was.
@@ -61,8 +57,9 @@ impl Execution {
             return Err(Refusal::MemoryTooShort);
         }
         put_edition(out);
-        for number in 0..self.listing.count {
-            put_operation(out, 4 + 9 * number, self.listing.at(number));
+        for (number, operation) in self.listing.held().iter().enumerate() {
+            // Counted, and no chunks zipped: nothing is known of what a loop over `chunks_exact_mut` writes.
+            put_operation(out, 4 + 9 * number, *operation);
         }
         Ok(size)
     }

@@ -1,10 +1,9 @@
 //! Executions: what was recorded of a program's run, and its record as bytes.
 #![tactic(auto)]
 
+mod bytes;
 mod calls;
 mod execution;
-mod list;
-mod listing;
 mod operation;
 mod questions;
 mod read;
@@ -12,5 +11,5 @@ mod rules;
 mod write;
 
 pub use execution::Execution;
-pub use operation::{Action, Operation};
+pub use operation::{Action, Operation, shared};
 pub use rules::rules_are_tested;

@@ -1,12 +1,13 @@
 //! An execution into a record's bytes.
 
-ghost use Rattle.std.specs.Prelude.{◌≡◌, ℕ, ◌+◌, ◌≤◌, List, [], ◌∷◌, ◌++◌, length, take, drop};
-ghost use Rattle.execution.specs.Writing.{kind_byte, address_number, source_byte, dependence_byte, field_of};
+ghost use Rattle.std.specs.Prelude.{◌≡◌, ◌+◌, ◌≤◌, [], ◌∷◌, ◌++◌, length, take, drop};
+ghost use Rattle.execution.specs.Writing.{kind_byte, field_of};
 
+use super::bytes::{EDITION_TAG, NONE, OPERATION_TAG};
 use super::operation::{Action, Operation};
 
-const NONE: u8 = 0xFF;
-
+/// The number of the kind in a record.
+// By cases, since a kind that holds an address has no number of its own.
 fn kind_byte(action: Action) -> u8
     ensures { result ≡ kind_byte action }
 {
@@ -18,50 +19,21 @@ fn kind_byte(action: Action) -> u8
     }
 }
 
-/// The address, or 0 where there is none.
-fn address_number(action: Action) -> u16
-    ensures { result ≡ address_number action }
-{
-    match action {
-        Action::Load { address, .. } => address,
-        Action::Store { address } => address,
-        _ => 0,
-    }
-}
-
-fn source_byte(action: Action) -> u8
-    ensures { result ≡ source_byte action }
-{
-    match action {
-        Action::Load { source, .. } => source,
-        _ => NONE,
-    }
-}
-
-fn dependence_byte(dependence: Option<u8>) -> u8
-    ensures { result ≡ dependence_byte dependence }
-{
-    match dependence {
-        Some(number) => number,
-        None => NONE,
-    }
-}
-
 /// The field of an operation.
 fn field_of(operation: Operation) -> [u8; 9]
     ensures { result ≡ field_of operation }
 {
-    let address = address_number(operation.action);
+    let [high, low] = operation.action.address().unwrap_or(0).to_be_bytes();
     [
-        0x11,
+        OPERATION_TAG,
         0,
         6,
         operation.thread,
         kind_byte(operation.action),
-        (address / 256) as u8,
-        (address % 256) as u8,
-        source_byte(operation.action),
-        dependence_byte(operation.dependence),
+        high,
+        low,
+        operation.action.source().unwrap_or(NONE),
+        operation.dependence.unwrap_or(NONE),
     ]
 }
 
@@ -80,5 +52,5 @@ pub(super) fn put_edition(out: &mut [u8])
     ensures front { take 4 out.new ≡ 16 ∷ 0 ∷ 1 ∷ 1 ∷ [] }
     ensures rest { drop 4 out.new ≡ drop 4 out.old }
 {
-    out[0..4].copy_from_slice(&[0x10, 0, 1, 1]);
+    out[..4].copy_from_slice(&[EDITION_TAG, 0, 1, 1]);
 }

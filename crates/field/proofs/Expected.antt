@@ -10,16 +10,16 @@ use Rattle.field.specs.Fields.{told, whole, body_of, expected}
 
 -- nothing was wrong at a test that faults
 pub past : {A : Type 0} (b : Bool) (e : Fault) (r : Result A Fault) (x : A) → cond b (Err e) r ≡ Ok x → (b ≡ false) × (r ≡ Ok x)
-past true e r x h = let z : ◌≡◌ {A = ℕ} 0 1 = cc in absurd (omega arith)
+past true e r x h = cc
 past false e r x h = (refl, h)
 
 pub unless_ok : {A : Type 0} (n : Option Refusal) (y : Layer) (x z : A) → unless n y x ≡ Ok z → (n ≡ None) × (x ≡ z)
 unless_ok None y x z h = (refl, cc)
-unless_ok (Some e) y x z h = let w : ◌≡◌ {A = ℕ} 0 1 = cc in absurd (omega arith)
+unless_ok (Some e) y x z h = cc
 
 pub and_then_ok : {A B : Type 0} (r : Result A Fault) (f : A → Result B Fault) (y : B) → and_then r f ≡ Ok y → (x : A) × (r ≡ Ok x) × (f x ≡ Ok y)
 and_then_ok (Ok x) f y h = (x, refl, h)
-and_then_ok (Err e) f y h = let w : ◌≡◌ {A = ℕ} 0 1 = cc in absurd (omega arith)
+and_then_ok (Err e) f y h = cc
 
 -- the field that was due stands at the front
 pub record Stands (s : List ℕ) (tag size : ℕ) (b : List ℕ) : Type 0 where

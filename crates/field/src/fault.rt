@@ -1,20 +1,20 @@
 //! A refusal of bytes: what is wrong, where, and who found it.
 
-ghost use Rattle.std.specs.Prelude.{◌≡◌, ℕ, ◌+◌, ◌^◌, ◌<◌, IfErr};
+ghost use Rattle.std.specs.Prelude.{◌≡◌, ◌+◌, ◌^◌, ◌<◌, IfErr};
 ghost use Rattle.field.specs.Numbers.{layer_number};
 ghost use Rattle.field.specs.Faults.{fault, moved};
 
 use super::refusal::Refusal;
 
 /// Who found a fault: each layer reads what the one below it hands up.
-#[derive(Clone, Copy)]
+#[derive(Debug, Clone, Copy, PartialEq, Eq)]
 pub enum Layer {
-    /// 1: the field, which may be cut short.
-    Field,
-    /// 2: the record or the table that the fields make up.
-    Record,
-    /// 3: the docket and the whole input.
-    Docket,
+    /// The field, which may be cut short.
+    Field = 1,
+    /// The record or the table that the fields make up.
+    Record = 2,
+    /// The docket and the whole input.
+    Docket = 3,
 }
 
 impl Layer {
@@ -22,16 +22,12 @@ impl Layer {
     pub fn number(self) -> u8
         ensures { result ≡ layer_number self }
     {
-        match self {
-            Layer::Field => 1,
-            Layer::Record => 2,
-            Layer::Docket => 3,
-        }
+        self as u8
     }
 }
 
 /// What is wrong with some bytes: the refusal, the byte where the field with the fault begins, and the layer that found it.
-#[derive(Clone, Copy)]
+#[derive(Debug, Clone, Copy, PartialEq, Eq)]
 pub struct Fault {
     pub refusal: Refusal,
     pub byte: usize,
@@ -56,12 +52,8 @@ pub fn within<T>(read: Result<T, Fault>, start: usize) -> Result<T, Fault>
     requires { IfErr read (λ e. e.byte + start < 2 ^ 64) }
     ensures { result ≡ moved start read }
 {
-    match read {
-        Ok(value) => Ok(value),
-        Err(fault) => Err(Fault {
-            refusal: fault.refusal,
-            byte: fault.byte + start,
-            layer: fault.layer,
-        }),
-    }
+    read.map_err(|fault| Fault {
+        byte: fault.byte + start,
+        ..fault
+    })
 }

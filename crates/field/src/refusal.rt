@@ -3,56 +3,56 @@
 ghost use Rattle.std.specs.Prelude.{◌≡◌};
 ghost use Rattle.field.specs.Numbers.{number_of};
 
-/// Every reason there is, in the order of the numbers by which makers know them.
+/// Every reason there is, with the number by which makers know it.
 /// 1 to 17 are refused for the input, 21 to 26 for the state of a case.
-#[derive(Clone, Copy)]
+#[derive(Debug, Clone, Copy, PartialEq, Eq)]
 pub enum Refusal {
-    /// 1: a field must stand here, or has begun, and its bytes are not all there.
-    CutShort,
-    /// 2: a field with another tag is due here.
-    TagNotDue,
-    /// 3: the tag wants another length.
-    WrongLength,
-    /// 4: a record of an edition that is not 01.
-    WrongEdition,
-    /// 5: a 33rd operation.
-    TooManyOperations,
-    /// 6: a thread above 8.
-    ThreadTooHigh,
-    /// 7: a kind outside 1 to 4.
-    UnknownKind,
-    /// 8: a fence or a branch with an address.
-    NeedlessAddress,
-    /// 9: thread 0 has only stores, at most one to an address.
-    InitialRule,
-    /// 10: a dependence is on an earlier operation of the same thread, and never in thread 0.
-    DependenceRule,
-    /// 11: a load saw a store to its address, and nothing else has a source.
-    SourceRule,
-    /// 12: an entry of a table above 2, or a book code outside 1 to 3.
-    UnknownCode,
-    /// 13: a table that lets pass what the law keeps.
-    LawlessTable,
-    /// 14: no operation has this number.
-    NoSuchOperation,
-    /// 15: the memory lent for writing is too short.
-    MemoryTooShort,
-    /// 16: an order that does not name each operation once.
-    IncompleteOrder,
-    /// 17: a docket above 4,096 bytes.
-    DocketTooLong,
-    /// 21: the case has its verdict already.
-    CaseEnded,
-    /// 22: a premise of the claim does not hold.
-    PremiseFails,
-    /// 23: the pair is recorded already.
-    PairRecorded,
-    /// 24: a close where no operation is before itself.
-    NoCycle,
-    /// 25: the order is no serialization.
-    NotSerialization,
-    /// 26: the case is not serial, so it has no order to write.
-    NotSerial,
+    /// A field must stand here, or has begun, and its bytes are not all there.
+    CutShort = 1,
+    /// A field with another tag is due here.
+    TagNotDue = 2,
+    /// The tag wants another length.
+    WrongLength = 3,
+    /// A record of an edition that is not 01.
+    WrongEdition = 4,
+    /// A 33rd operation.
+    TooManyOperations = 5,
+    /// A thread above 8.
+    ThreadTooHigh = 6,
+    /// A kind outside 1 to 4.
+    UnknownKind = 7,
+    /// A fence or a branch with an address.
+    NeedlessAddress = 8,
+    /// Thread 0 has only stores, at most one to an address.
+    InitialRule = 9,
+    /// A dependence is on an earlier operation of the same thread, and never in thread 0.
+    DependenceRule = 10,
+    /// A load saw a store to its address, and nothing else has a source.
+    SourceRule = 11,
+    /// An entry of a table above 2, or a book code outside 1 to 3.
+    UnknownCode = 12,
+    /// A table that lets pass what the law keeps.
+    LawlessTable = 13,
+    /// No operation has this number.
+    NoSuchOperation = 14,
+    /// The memory lent for writing is too short.
+    MemoryTooShort = 15,
+    /// An order that does not name each operation once.
+    IncompleteOrder = 16,
+    /// A docket above 4,096 bytes.
+    DocketTooLong = 17,
+    /// The case has its verdict already.
+    CaseEnded = 21,
+    /// A premise of the claim does not hold.
+    PremiseFails = 22,
+    /// The pair is recorded already.
+    PairRecorded = 23,
+    /// A close where no operation is before itself.
+    NoCycle = 24,
+    /// The order is no serialization.
+    NotSerialization = 25,
+    /// The case is not serial, so it has no order to write.
+    NotSerial = 26,
 }
 
 impl Refusal {
@@ -60,30 +60,6 @@ impl Refusal {
     pub fn number(self) -> u8
         ensures { result ≡ number_of self }
     {
-        match self {
-            Refusal::CutShort => 1,
-            Refusal::TagNotDue => 2,
-            Refusal::WrongLength => 3,
-            Refusal::WrongEdition => 4,
-            Refusal::TooManyOperations => 5,
-            Refusal::ThreadTooHigh => 6,
-            Refusal::UnknownKind => 7,
-            Refusal::NeedlessAddress => 8,
-            Refusal::InitialRule => 9,
-            Refusal::DependenceRule => 10,
-            Refusal::SourceRule => 11,
-            Refusal::UnknownCode => 12,
-            Refusal::LawlessTable => 13,
-            Refusal::NoSuchOperation => 14,
-            Refusal::MemoryTooShort => 15,
-            Refusal::IncompleteOrder => 16,
-            Refusal::DocketTooLong => 17,
-            Refusal::CaseEnded => 21,
-            Refusal::PremiseFails => 22,
-            Refusal::PairRecorded => 23,
-            Refusal::NoCycle => 24,
-            Refusal::NotSerialization => 25,
-            Refusal::NotSerial => 26,
-        }
+        self as u8
     }
 }

@@ -1,18 +1,18 @@
 -- What a desk can count on that holds what a case has come to, and how it goes on.
-use Rattle.std.proofs.Common.{◌≡◌, ℕ, Bool, false, List, length, None}
+use Rattle.std.proofs.Common.{◌≡◌, ℕ, Bool, false, List, None, length}
 use mathlib.Core.HLevel.{⊥_prop}
 use mathlib.Core.Logic.{∥∥₁_elim, ∥∥₁_prop}
-use native.Mathlib.Nat.{ℕ_set}
-use native.Mathlib.Bridge.{le_prop}
-use lib.Dec.{T_prop}
 use Rattle.field.specs.declared.refusal.Refusal.{Refusal}
 use Rattle.execution.specs.declared.operation.Operation.{Operation}
 use Rattle.theory.specs.Lists.{first_by}
-use Rattle.theory.specs.Order.{Rows, before, cyclic, Settled}
+use Rattle.theory.specs.Order.{Rows, Settled, cyclic, before}
 use Rattle.theory.specs.Case.{open', Model, Call, propose, Answer, refused, lacks, claims, splits, greedy, Replies, Turn, Hears}
 use Rattle.theory.specs.Promises.{Reached}
-use Rattle.theory.proofs.Kept.{orders_stay_sound, not_stuck}
+use Rattle.theory.proofs.Kept.{not_stuck, orders_stay_sound}
 use Rattle.theory.proofs.Runs.{turn_heard, reached_next}
+use native.Mathlib.Nat.{ℕ_set}
+use native.Mathlib.Bridge.{le_prop}
+use lib.Dec.{T_prop}
 
 module _ (L : ℕ → ℕ → Bool) (E : List Operation) (O : Rows) {M : Model} where
   -- a case goes on by a call

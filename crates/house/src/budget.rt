@@ -17,16 +17,14 @@ pub fn house(given: &Given, desk: &mut Desk, budget: u16) -> Result<(u16, State)
     ensures told { (t : ℕ) (s : State) → result ≡ Ok (t, s) → s ≡ desk.new.state }
     ensures kept { (e : Refusal) → result ≡ Err e → desk.new ≡ desk.old }
 {
-    let State::Open = desk.state else {
+    if desk.state != State::Open {
         return Err(Refusal::CaseEnded);
-    };
-    let mut made = 0;
-    while made < budget {
-        let State::Open = desk.state else {
-            break;
-        };
-        turn(given, desk);
-        made += 1;
     }
-    Ok((made, desk.state))
+    for made in 0..budget {
+        if desk.state != State::Open {
+            return Ok((made, desk.state));
+        }
+        turn(given, desk);
+    }
+    Ok((budget, desk.state))
 }

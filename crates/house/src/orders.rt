@@ -4,7 +4,7 @@ ghost use Rattle.std.specs.Prelude.{◌≡◌, Err};
 ghost use Rattle.theory.specs.Case.{propose, Replies};
 ghost use Rattle.desk.specs.Model.{events, locally, model};
 ghost use Rattle.desk.specs.Judged.{answer_of};
-ghost use Rattle.house.specs.Orders.{is_serial, Weighed};
+ghost use Rattle.house.specs.Orders.{is_serial};
 
 use desk::{Desk, Given, State};
 use field::Refusal;
@@ -20,9 +20,11 @@ fn is_serial(given: &Given, order: &[u8]) -> bool
     is_serialization(&given.execution, &opening, order)
 }
 
-/// Admits the order or turns it away, by the first reason that there is.
-fn weigh(given: &Given, desk: &mut Desk, order: &[u8]) -> Result<(), Refusal>
-    ensures { Weighed given.now order.now desk.old result desk.new }
+/// Proposes an order, which is admitted exactly if it is a serialization, whatever choices stand.
+/// Of all reasons to turn it away the one with the smallest number is told, and a refused order leaves all as it was.
+pub fn propose(given: &Given, desk: &mut Desk, order: &[u8]) -> Result<(), Refusal>
+    ensures replies { Replies (locally given.now) (events given.now) (model given.now desk.old) (propose order.now) (answer_of result) (model given.now desk.new) }
+    ensures kept { (e : Refusal) → result ≡ Err e → desk.new ≡ desk.old }
 {
     match desk.state {
         _ if names_unknown(&given.execution, order) => Err(Refusal::NoSuchOperation),
@@ -34,13 +36,4 @@ fn weigh(given: &Given, desk: &mut Desk, order: &[u8]) -> Result<(), Refusal>
             Ok(())
         }
     }
-}
-
-/// Proposes an order, which is admitted exactly if it is a serialization, whatever choices stand.
-/// Of all reasons to turn it away the one with the smallest number is told, and a refused order leaves all as it was.
-pub fn propose(given: &Given, desk: &mut Desk, order: &[u8]) -> Result<(), Refusal>
-    ensures replies { Replies (locally given.now) (events given.now) (model given.now desk.old) (propose order.now) (answer_of result) (model given.now desk.new) }
-    ensures kept { (e : Refusal) → result ≡ Err e → desk.new ≡ desk.old }
-{
-    weigh(given, desk, order)
 }

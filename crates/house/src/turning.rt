@@ -16,16 +16,10 @@ pub fn turn(given: &Given, desk: &mut Desk)
     ensures { Turned given.now desk.old desk.new }
 {
     match next_claim(given, desk) {
-        Some(claim) => match desk.claim(given, claim) {
-            Ok(()) => {}
-            Err(_) => unreachable(),
-        },
+        Some(claim) => desk.claim(given, claim).unwrap(),
         None => {
             let lowest = lowest_first(&given.execution, &desk.order);
-            match propose(given, desk, lowest.numbers()) {
-                Ok(()) => {}
-                Err(_) => unreachable(),
-            }
+            propose(given, desk, lowest.held()).unwrap();
         }
     }
 }

@@ -1,4 +1,2 @@
-mod Room
 mod Kept
 mod Recorded
-mod Counted

@@ -2,41 +2,32 @@
 
 ghost use Rattle.std.specs.Prelude.{◌≡◌, ◌<◌, length};
 ghost use Rattle.execution.specs.Calls.{ops};
-ghost use Rattle.execution.specs.Operations.{saw as saw_in};
 ghost use Rattle.theory.specs.Order.{before, Settled, Says};
 ghost use Rattle.theory.specs.Serial.{direct, Opening};
-ghost use Rattle.opening.specs.Orders.{rows_in, Within};
+ghost use Rattle.order.specs.Rows.{rows_of};
+ghost use Rattle.opening.specs.Orders.{Within};
 
 use execution::Execution;
 use order::Order;
-
-/// Did this load see this store?
-fn saw(execution: &Execution, load: usize, store: usize) -> bool
-    ensures { result ≡ saw_in (ops execution.now) load store }
-{
-    match execution.source(load) {
-        Some(source) => source == store,
-        None => false,
-    }
-}
 
 /// Is a before b at once, by the local order or as the source of b?
 fn is_direct(execution: &Execution, local: &Order, a: usize, b: usize) -> bool
     requires a_in_bounds { a < length (ops execution.now) }
     requires b_in_bounds { b < length (ops execution.now) }
-    ensures { result ≡ direct (before (rows_in execution.now local.now)) (ops execution.now) a b }
+    ensures { result ≡ direct (before (rows_of execution.now local.now)) (ops execution.now) a b }
 {
-    local.stands(execution.len(), a, b) || saw(execution, b, a)
+    local.stands(execution.len(), a, b) || execution.source(b) == Some(a)
 }
 
 /// The opening order over a local order, which names operations only. Each record takes over what follows from the pairs before it.
 pub fn opening_order(execution: &Execution, local: &Order) -> Order
-    requires { Within (length (ops execution.now)) (rows_in execution.now local.now) }
-    ensures says { Says (ops execution.now) (rows_in execution.now result) (Opening (before (rows_in execution.now local.now)) (ops execution.now)) }
-    ensures settled { Settled (length (ops execution.now)) (rows_in execution.now result) }
+    requires { Within (length (ops execution.now)) (rows_of execution.now local.now) }
+    ensures says { Says (ops execution.now) (rows_of execution.now result) (Opening (before (rows_of execution.now local.now)) (ops execution.now)) }
+    ensures settled { Settled (length (ops execution.now)) (rows_of execution.now result) }
 {
     let n = execution.len();
     let mut order = Order::empty();
+    // A plain loop, since each record changes the order that the next one starts from.
     for a in 0..n {
         for b in 0..n {
             if is_direct(execution, local, a, b) {

@@ -5,12 +5,15 @@ ghost use Rattle.execution.specs.Calls.{ops};
 ghost use Rattle.order.specs.Bits.{bit};
 ghost use Rattle.theory.specs.Order.{before};
 ghost use Rattle.theory.specs.Serial.{local as local_by, LawfulOrder};
-ghost use Rattle.opening.specs.Orders.{rows_in, Within};
+ghost use Rattle.order.specs.Rows.{rows_of};
+ghost use Rattle.opening.specs.Orders.{Within};
 
 use execution::Execution;
 use order::Order;
 use rulebook::{RuleBook, Seen};
+use std::array;
 
+// The book is lent beside the execution, here and wherever a case is opened: it is asked, and nothing keeps both.
 /// Is a before b in the local order? The book is asked only about two operations of one thread that runs, the first above the second.
 fn is_local<B: RuleBook>(execution: &Execution, book: &B, a: usize, b: usize) -> bool
     ensures { result ≡ local_by (B.RuleBook.keeps book.now) (ops execution.now) a b }
@@ -29,27 +32,19 @@ fn is_local<B: RuleBook>(execution: &Execution, book: &B, a: usize, b: usize) ->
 
 /// All that a is before in the local order, as bits.
 fn local_row<B: RuleBook>(execution: &Execution, book: &B, a: usize) -> u32
-    ensures { (b : ℕ) → bit result b ≡ local_by (B.RuleBook.keeps book.now) (ops execution.now) a b }
+    ensures { bit result ≡ local_by (B.RuleBook.keeps book.now) (ops execution.now) a }
 {
-    let mut row = 0;
-    for b in 0..execution.len() {
-        if is_local(execution, book, a, b) {
-            row |= 1 << b;
-        }
-    }
-    row
+    (0..execution.len())
+        .filter(|b| is_local(execution, book, a, *b))
+        .fold(0, |row, b| row | 1 << b)
 }
 
 /// The local order of a book. It is kept pair by pair as the book answered, so it need not be transitive.
 pub fn local_order<B: RuleBook>(execution: &Execution, book: &B) -> Order
-    ensures kept { (a b : ℕ) → before (rows_in execution.now result) a b ≡ local_by (B.RuleBook.keeps book.now) (ops execution.now) a b }
+    ensures kept { (a b : ℕ) → before (rows_of execution.now result) a b ≡ local_by (B.RuleBook.keeps book.now) (ops execution.now) a b }
     ensures whole { (a b : ℕ) → before result.rows a b ≡ local_by (B.RuleBook.keeps book.now) (ops execution.now) a b }
-    ensures within { Within (length (ops execution.now)) (rows_in execution.now result) }
-    ensures lawful { LawfulOrder (before (rows_in execution.now result)) (ops execution.now) }
+    ensures within { Within (length (ops execution.now)) (rows_of execution.now result) }
+    ensures lawful { LawfulOrder (before (rows_of execution.now result)) (ops execution.now) }
 {
-    let mut rows = [0; 32];
-    for a in 0..execution.len() {
-        rows[a] = local_row(execution, book, a);
-    }
-    Order::of(rows)
+    Order::from(array::from_fn(|a| local_row(execution, book, a)))
 }

@@ -1,5 +1,5 @@
 -- What `|`, `&`, `!`, `1 << b` and the lowest bit come to, bit by bit.
-use Rattle.std.proofs.Common.{◌≡◌, ℕ, zero, suc, ◌-◌, ◌/◌, ◌%◌, ◌^◌, ◌<◌, ◌≤◌, min, max, Bool, true, false, cond, not, ◌&&◌, ◌||◌, eqb, ◌⊎◌, Some, None, Option, sym, refl, ap, ◌∙◌, inl, inr, pow-suc, div-one, arith}
+use Rattle.std.proofs.Common.{◌≡◌, ℕ, zero, suc, ◌-◌, ◌/◌, ◌%◌, ◌^◌, ◌<◌, ◌≤◌, min, max, Bool, true, false, not, ◌&&◌, ◌||◌, eqb, ◌⊎◌, Some, None, Option, sym, refl, ap, ◌∙◌, inl, inr, pow-suc, div-one, is_some, IfSome, subst, tests, arith}
 use lib.Bits.{bit_or, bit_and, and_step, and_shr}
 use lib.Count.{count_trailing_zeros, under}
 use Rattle.std.proofs.lemmas.Bool.{cases_lt}
@@ -59,6 +59,11 @@ lowest_set (suc k) n h p =
           rw at (bit_zero n ∙ ap (λ v. eqb v 1) e, λ j l. absurd (omega arith))
     ]
 
+-- the lowest bit, asked of a number that is not 0
+pub lowest_then : (n : ℕ) → n < 2 ^ 32 → (r : Option ℕ) → is_some r ≡ not (eqb n 0) → IfSome r (λ i. i ≡ count_trailing_zeros 32 n) → Lowest n r
+lowest_then n h None e p = let z : n ≡ 0 = grind (arith, tests) in λ k. ap (λ v. bit v k) z ∙ bit_none k
+lowest_then n h (Some i) e p = let d : 0 < n = grind (arith, tests) in subst (λ v. Lowest n (Some v)) (sym p) (lowest_set 32 n h d)
+
 -- ! of k bits
 flip : (k n : ℕ) → n < 2 ^ suc k → (2 ^ suc k - 1 - n) % 2 ≡ 1 - n % 2
 flip k n h = omega (arith, pow-suc 2 k)
@@ -92,14 +97,3 @@ lowest_less m n h l (Some i) p = (sym (bit_less 32 m n i h l) ∙ p.0, λ k u. s
 pub lowest_same : (f g : ℕ → Bool) → ((k : ℕ) → f k ≡ g k) → (r : Option ℕ) → LowestOf f r → LowestOf g r
 lowest_same f g e None p = λ k u. sym (e k) ∙ p k u
 lowest_same f g e (Some i) p = (sym (e i) ∙ p.0, λ k u. sym (e k) ∙ p.1 k u)
-
--- numbers that agree bit by bit are one
-pub same_bits : (k m n : ℕ) → m < 2 ^ k → n < 2 ^ k → ((j : ℕ) → j < k → bit m j ≡ bit n j) → m ≡ n
-same_bits zero m n hm hn h = omega arith
-same_bits (suc k) m n hm hn h =
-    let halves : m / 2 ≡ n / 2 = same_bits k (m / 2) (n / 2) (omega (arith, pow-suc 2 k)) (omega (arith, pow-suc 2 k)) (λ j l. sym (bit_suc m j) ∙ h (suc j) (omega arith) ∙ bit_suc n j) in
-    let low : m % 2 ≡ n % 2 = low_digit m ∙ ap (λ t. cond t 1 0) (h 0 (omega arith)) ∙ sym (low_digit n) in
-    omega arith
-  where
-    low_digit : (n : ℕ) → n % 2 ≡ cond (bit n 0) 1 0
-    low_digit n = elim (parity n) [ inl e ↦ e ∙ sym (ap (λ t. cond t 1 0) (bit_zero n ∙ ap (λ v. eqb v 1) e)) | inr e ↦ e ∙ sym (ap (λ t. cond t 1 0) (bit_zero n ∙ ap (λ v. eqb v 1) e)) ]

@@ -4,7 +4,7 @@ ghost use Rattle.std.specs.Prelude.{◌≡◌, ◌<◌, not, ◌&&◌};
 ghost use Rattle.order.specs.Bits.{bit, Lowest, LowestOf};
 
 /// Whether bit b is set.
-pub(super) fn has(row: u32, b: usize) -> bool
+pub fn has(row: u32, b: usize) -> bool
     requires { b < 32 }
     ensures { result ≡ bit row b }
 {
@@ -15,11 +15,7 @@ pub(super) fn has(row: u32, b: usize) -> bool
 pub fn lowest(row: u32) -> Option<u32>
     ensures { Lowest row result }
 {
-    if row == 0 {
-        None
-    } else {
-        Some(row.trailing_zeros())
-    }
+    (row != 0).then(|| row.trailing_zeros())
 }
 
 /// The lowest bit that is set in the one row and not in the other.

@@ -4,7 +4,8 @@
 mod bits;
 mod guard;
 mod order;
+mod undecided;
 
-pub use bits::lowest;
+pub use bits::{has, lowest};
 pub use guard::Restore;
 pub use order::Order;

@@ -7,25 +7,28 @@ ghost use Rattle.order.specs.Bits.{bit, LowestOf};
 use super::bits::{has, lowest_without};
 
 /// An order of up to 32 operations, by number: bit b of row a says that a is before b.
-#[derive(Clone, Copy)]
+#[derive(Debug, Clone, Copy, PartialEq, Eq)]
 pub struct Order {
     rows: [u32; 32],
     ghost full: { length rows ≡ 32 },
 }
 
+/// The order with these rows, as they are.
+impl From<[u32; 32]> for Order {
+    ghost from_gives = { λ rows order. order.rows ≡ rows };
+
+    fn from(rows: [u32; 32]) -> Self {
+        Order { rows }
+    }
+}
+
+// Numbers of operations are plain here, with a clause that bounds each: a type of numbers below 32 would be made and taken apart at every call from above.
 impl Order {
     /// Nothing is before anything.
     pub fn empty() -> Order
         ensures { result.rows ≡ replicate 32 0 }
     {
         Order { rows: [0; 32] }
-    }
-
-    /// The order with these rows, as they are.
-    pub fn of(rows: [u32; 32]) -> Order
-        ensures { result.rows ≡ rows }
-    {
-        Order { rows }
     }
 
     /// All that a is before, as bits.
@@ -64,9 +67,9 @@ impl Order {
     {
         // b's row may itself be changed below, so what is taken over is read first
         let after = self.rows[b] | (1 << b);
-        for x in 0..32 {
-            if x == a || self.before(x, a) {
-                self.rows[x] |= after;
+        for (x, row) in self.rows.iter_mut().enumerate() {
+            if x == a || has(*row, a) {
+                *row |= after;
             }
         }
     }
@@ -76,14 +79,11 @@ impl Order {
         requires { n ≤ 32 }
         ensures { result ≡ pairs (take n self.now.rows) }
     {
-        let mut count = 0;
-        for row in &self.rows[..n] {
-            count += row.count_ones();
-        }
-        count
+        self.rows[..n].iter().map(|row| row.count_ones()).sum()
     }
 
-    /// How many of the n * n pairs of the first n operations the first n rows lack.
+    /// How many of the n * n pairs of the first n operations the first n rows lack, where these rows have no bit at n or above.
+    /// Such a bit is counted as a pair too.
     pub fn missing(&self, n: usize) -> u32
         requires { n ≤ 32 }
         ensures { result ≡ n * n - pairs (take n self.now.rows) }
@@ -97,12 +97,7 @@ impl Order {
         requires { n ≤ 32 }
         ensures { result ≡ cyclic (take n self.now.rows) }
     {
-        for a in 0..n {
-            if self.before(a, a) {
-                return true;
-            }
-        }
-        false
+        (0..n).any(|a| self.before(a, a))
     }
 
     /// The lowest number in `after` that a is not before.

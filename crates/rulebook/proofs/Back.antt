@@ -1,13 +1,15 @@
 -- A table is read from exactly the bytes that are its writing.
-use Rattle.std.proofs.Common.{◌≡◌, ℕ, ◌+◌, ◌≤◌, Bool, true, false, cond, not, ◌&&◌, eqb, leb, List, [], ◌∷◌, map, length, get_or, take, drop, Ok, Err, Result, sym, refl, ap, ◌∙◌, arith, length-drop, eqb-true, leb-true}
+use Rattle.std.proofs.Common.{◌≡◌, ℕ, ◌≤◌, Bool, true, false, cond, eqb, leb, List, [], ◌∷◌, map, length, get_or, take, drop, Ok, Err, Result, sym, refl, ap, ◌∙◌, arith, length-drop, eqb-true}
 use Rattle.std.proofs.lemmas.List.{take_all, drop_all, drop_more, length-map}
+use Rattle.std.proofs.lemmas.Bool.{and_parts}
 use Rattle.std.proofs.lemmas.Bool.Decides.{nat_tests}
 use Rattle.field.specs.declared.refusal.Refusal.{Refusal}
 use Rattle.field.specs.declared.fault.Layer.{Layer}
 use Rattle.field.specs.declared.fault.Layer.TheVariants as layer
 use Rattle.field.specs.declared.fault.Fault.{Fault}
-use Rattle.field.specs.Faults.{moved, and_then}
+use Rattle.field.specs.Faults.{moved}
 use Rattle.field.specs.Fields.{told, whole, expected}
+use Rattle.field.proofs.Expected.{and_then_ok, expected_ok}
 use Rattle.rulebook.specs.declared.entry.Entry.{Entry}
 use Rattle.rulebook.specs.declared.entry.Entry.TheVariants as entry
 use Rattle.rulebook.specs.declared.table.Table.{Table}
@@ -37,13 +39,9 @@ codes_entries : (es : List Entry) → entries_of (map code_of es) ≡ es
 codes_entries [] = refl
 codes_entries (e ∷ es) = cc (code_entry e, codes_entries es)
 
-both : (a b : Bool) → (a && b) ≡ true → (a ≡ true) × (b ≡ true)
-both true b h = (refl, h)
-both false b h = (cc, cc)
-
 entries_codes : (ns : List ℕ) → known ns ≡ true → map code_of (entries_of ns) ≡ ns
 entries_codes [] h = refl
-entries_codes (n ∷ ns) h = let p = both (leb n 2) (known ns) h in cc (entry_code n p.0, entries_codes ns p.1)
+entries_codes (n ∷ ns) h = let p = and_parts (leb n 2) (known ns) h in cc (entry_code n p.0, entries_codes ns p.1)
 
 -- every writing is read
 read_codes : (ns : List ℕ) → length ns ≡ 16 → known ns ≡ true → obeys (entries_of ns) ≡ true → table_in (18 ∷ 0 ∷ 16 ∷ ns) ≡ Ok (entries_of ns)
@@ -60,17 +58,9 @@ read_writing s es w =
     ap table_in w.bytes ∙ read_codes (map code_of es) n (codes_known es) o ∙ ap Ok b
 
 -- what each part of an accepted reading passed
-then_ok : {A B : Type 0} (r : Result A Fault) (f : A → Result B Fault) (z : B) → and_then r f ≡ Ok z → (x : A) × (r ≡ Ok x) × (f x ≡ Ok z)
-then_ok (Ok x) f z h = (x, refl, h)
-then_ok (Err e) f z h = absurd (let n : ◌≡◌ {A = ℕ} 0 1 = cc in omega arith)
-
-passed : {A E : Type 0} (b : Bool) (r : Result A E) (e : E) (z : A) → cond b r (Err e) ≡ Ok z → (b ≡ true) × (r ≡ Ok z)
+pub passed : {A E : Type 0} (b : Bool) (r : Result A E) (e : E) (z : A) → cond b r (Err e) ≡ Ok z → (b ≡ true) × (r ≡ Ok z)
 passed true r e z h = (refl, h)
 passed false r e z h = (cc, cc)
-
-not_stopped : {A E : Type 0} (b : Bool) (r : Result A E) (e : E) (z : A) → cond (not b) (Err e) r ≡ Ok z → (b ≡ true) × (r ≡ Ok z)
-not_stopped true r e z h = (refl, h)
-not_stopped false r e z h = (cc, cc)
 
 found_ok : {A : Type 0} (y : Layer) (r : Result A Refusal) (z : A) → found_by y r ≡ Ok z → r ≡ Ok z
 found_ok y (Ok x) z h = cc
@@ -96,20 +86,12 @@ fronted s h =
 -- a table's field that nothing follows
 read_field : (s ns : List ℕ) → expected s 18 16 layer.Record ≡ Ok ns → length s ≤ 19 → (s ≡ 18 ∷ 0 ∷ 16 ∷ ns) × (length ns ≡ 16)
 read_field s ns h short =
-    let w = not_stopped (whole s) _ _ ns h in
-    let t = not_stopped (eqb (get_or s 0 0) 18) _ _ ns w.1 in
-    let l = not_stopped (eqb (told s) 16) _ _ ns t.1 in
-    let tag : get_or s 0 0 ≡ 18 = eqb-true _ _ t.0 in
-    let size : told s ≡ 16 = eqb-true _ _ l.0 in
-    let high : get_or s 1 0 ≡ 0 = omega (arith, size) in
-    let low : get_or s 2 0 ≡ 16 = omega (arith, size) in
-    let there = both (leb 3 (length s)) (leb (3 + told s) (length s)) w.0 in
-    let three : 3 ≤ length s = leb-true _ _ there.0 in
-    let long : 3 + told s ≤ length s = leb-true _ _ there.1 in
-    let all : take (told s) (drop 3 s) ≡ drop 3 s = take_all (told s) (drop 3 s) (simp length-drop (omega (arith, size))) in
-    let body : drop 3 s ≡ ns = cc l.1 in
-    let front : s ≡ 18 ∷ 0 ∷ 16 ∷ ns = cc (fronted s three) in
-    (front, ap length (sym body) ∙ length-drop 3 s ∙ omega (arith, size, long))
+    let st = expected_ok s 18 16 layer.Record ns h in
+    let high : get_or s 1 0 ≡ 0 = omega (arith, st.sized) in
+    let low : get_or s 2 0 ≡ 16 = omega (arith, st.sized) in
+    let all : take (told s) (drop 3 s) ≡ drop 3 s = take_all (told s) (drop 3 s) (omega (arith, length-drop 3 s, st.sized)) in
+    let front : s ≡ 18 ∷ 0 ∷ 16 ∷ ns = cc (fronted s (omega (arith, st.long)), st.tagged, high, low, all, st.body) in
+    (front, ap length (st.body ∙ all) ∙ length-drop 3 s ∙ omega (arith, st.long))
 
 read_entries : (ns : List ℕ) (es : List Entry) → judged ns ≡ Ok es → (map code_of es ≡ ns) × (obeys es ≡ true)
 read_entries ns es h =
@@ -126,10 +108,10 @@ nothing_more s u h =
 -- only writings are read
 written_reading : (s : List ℕ) (es : List Entry) → table_in s ≡ Ok es → WritingOf s es
 written_reading s es h =
-    let front = then_ok (expected s 18 16 layer.Record) _ es h in
+    let front = and_then_ok (expected s 18 16 layer.Record) _ es h in
     let ns = front.0 in
-    let codes = then_ok (found_by layer.Record (judged ns)) _ es front.2 in
-    let rest = then_ok (moved 19 (ended (drop 19 s))) _ es codes.2 in
+    let codes = and_then_ok (found_by layer.Record (judged ns)) _ es front.2 in
+    let rest = and_then_ok (moved 19 (ended (drop 19 s))) _ es codes.2 in
     let same : codes.0 ≡ es = cc rest.2 in
     let a = read_field s ns front.1 (nothing_more s rest.0 rest.1) in
     let b = read_entries ns es (found_ok layer.Record (judged ns) es (codes.1 ∙ ap Ok same)) in

@@ -13,7 +13,8 @@ use super::weak::Weak;
 use field::Refusal;
 
 /// A rule book of some kind; it keeps what the book that it holds keeps.
-#[derive(Clone, Copy)]
+// An enum, so that a book is a plain value and nothing is allocated for it.
+#[derive(Debug, Clone, Copy, PartialEq, Eq)]
 pub enum Book {
     Sc(Sc),
     Weak(Weak),
@@ -21,11 +22,13 @@ pub enum Book {
     Written(Table),
 }
 
-impl Book {
-    /// The book with this code: 1, 2 or 3. A written table has none, since its entries have to be read.
-    pub fn by_code(code: u8) -> Result<Book, Refusal>
-        ensures { result ≡ book_by_code code }
-    {
+/// The book with this code: 1, 2 or 3. A written table has none, since its entries have to be read.
+impl TryFrom<u8> for Book {
+    type Error = Refusal;
+
+    ghost try_from_gives = { λ code r. r ≡ book_by_code code };
+
+    fn try_from(code: u8) -> Result<Self, Refusal> {
         match code {
             1 => Ok(Book::Sc(Sc)),
             2 => Ok(Book::Weak(Weak)),

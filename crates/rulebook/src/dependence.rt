@@ -7,7 +7,7 @@ use super::rule_book::RuleBook;
 use super::seen::Seen;
 
 /// The book that keeps what the book below it keeps, and also a pair whose second depends on its first.
-#[derive(Clone, Copy)]
+#[derive(Debug, Clone, Copy, PartialEq, Eq)]
 pub struct Dependence<B>(pub B);
 
 impl<B: RuleBook> RuleBook for Dependence<B> {

@@ -8,21 +8,23 @@ use super::seen::Access;
 use field::Refusal;
 
 /// What a written table says of a pair of kinds.
-#[derive(Clone, Copy)]
+#[derive(Debug, Clone, Copy, PartialEq, Eq)]
 pub enum Entry {
-    /// 0: the second may pass the first.
-    MayPass,
-    /// 1: the pair keeps its order.
-    Kept,
-    /// 2: the pair keeps its order where both touch one address.
-    KeptOnAddress,
+    /// The second may pass the first.
+    MayPass = 0,
+    /// The pair keeps its order.
+    Kept = 1,
+    /// The pair keeps its order where both touch one address.
+    KeptOnAddress = 2,
 }
 
-impl Entry {
-    /// The entry with this code.
-    pub fn by_code(code: u8) -> Result<Entry, Refusal>
-        ensures { result ≡ entry_by_code code }
-    {
+/// The entry with this code.
+impl TryFrom<u8> for Entry {
+    type Error = Refusal;
+
+    ghost try_from_gives = { λ code r. r ≡ entry_by_code code };
+
+    fn try_from(code: u8) -> Result<Self, Refusal> {
         match code {
             0 => Ok(Entry::MayPass),
             1 => Ok(Entry::Kept),
@@ -30,7 +32,9 @@ impl Entry {
             _ => Err(Refusal::UnknownCode),
         }
     }
+}
 
+impl Entry {
     /// Does a pair with this entry keep its order?
     pub(super) fn keeps(self, first: Access, second: Access) -> bool
         ensures { result ≡ entry_keeps self (shares_address first second) }
@@ -46,9 +50,6 @@ impl Entry {
     pub(super) fn may_pass(self) -> bool
         ensures { result ≡ may_pass self }
     {
-        match self {
-            Entry::MayPass => true,
-            Entry::Kept | Entry::KeptOnAddress => false,
-        }
+        self == Entry::MayPass
     }
 }

@@ -1,7 +1,6 @@
 //! How a written table is read from bytes.
 
-ghost use Rattle.std.specs.Prelude.{◌≡◌, ◌≤◌, length, drop, IfErr, Ok, Err, MatchResult};
-ghost use Rattle.field.specs.Faults.{moved};
+ghost use Rattle.std.specs.Prelude.{◌≡◌, IfErr, Ok, Err, MatchResult};
 ghost use Rattle.rulebook.specs.Writing.{decoded, judged, ended, table_in, WritingOf, NoWriting};
 ghost use Rattle.rulebook.specs.Taking.{Found, Exact, Inside, Taken};
 
@@ -9,24 +8,27 @@ use super::entry::Entry;
 use super::table::Table;
 use field::{Fault, Layer, Refusal, expect_field, read_field, within};
 
+/// The tag of a written table.
+const TABLE_TAG: u8 = 18;
+
+/// How many codes it has, one for each pair of kinds.
+const TABLE_CODES: usize = 16;
+
+/// How many bytes it has: the tag, the two bytes of the length, and the codes.
+const TABLE_LENGTH: usize = 3 + TABLE_CODES;
+
 /// The entries with these codes.
-fn decode(codes: &[u8]) -> Result<[Entry; 16], Refusal>
-    requires { length codes.now ≡ 16 }
-    ensures { result ≡ decoded codes.now }
+fn decode(codes: [u8; TABLE_CODES]) -> Result<[Entry; TABLE_CODES], Refusal>
+    ensures { result ≡ decoded codes }
 {
-    let mut entries = [Entry::Kept; 16];
-    for (i, code) in codes.iter().enumerate() {
-        entries[i] = Entry::by_code(*code)?;
-    }
-    Ok(entries)
+    codes.try_map(Entry::try_from)
 }
 
 /// The table with these codes: an unknown code comes before a lawless table, wherever it stands.
-fn table_of(codes: &[u8]) -> Result<Table, Refusal>
-    requires { length codes.now ≡ 16 }
-    ensures { MatchResult result (λ t. judged codes.now ≡ Ok t.entries) (λ e. judged codes.now ≡ Err e) }
+fn table_of(codes: [u8; TABLE_CODES]) -> Result<Table, Refusal>
+    ensures { MatchResult result (λ t. judged codes ≡ Ok t.entries) (λ e. judged codes ≡ Err e) }
 {
-    Table::of(decode(codes)?)
+    decode(codes).and_then(Table::try_from)
 }
 
 /// Nothing is due any more: what still stands here is judged as a field that is not due.
@@ -41,40 +43,21 @@ fn read_end(rest: &[u8]) -> Result<(), Fault>
     Err(Fault::here(Refusal::TagNotDue, Layer::Record))
 }
 
-/// The same of what follows a table's field, which is 19 bytes long.
-fn read_end_of_table(bytes: &[u8]) -> Result<(), Fault>
-    requires { 19 ≤ length bytes.now }
-    ensures ended { result ≡ moved 19 (ended (drop 19 bytes.now)) }
-    ensures there { IfErr result (λ e. e.byte ≡ 19) }
-{
-    within(read_end(&bytes[19..]), 19)
-}
-
-/// Reads the field, its codes and the end in turn, so that the first fault there is gets told.
-fn read_in_turn(bytes: &[u8]) -> Result<Table, Fault>
-    ensures found { Found bytes.now result }
-    ensures inside { Inside bytes.now result }
-{
-    let codes = expect_field(bytes, 18, 16, Layer::Record)?;
-    let table = match table_of(codes) {
-        Ok(table) => table,
-        Err(refusal) => return Err(Fault::here(refusal, Layer::Record)),
-    };
-    read_end_of_table(bytes)?;
-    Ok(table)
-}
-
-/// The table that `bytes` are the writing of: reading in turn accepts a writing whole, and nothing else.
+/// The table that `bytes` are the writing of: its field, its codes and the end are read in turn, so that the first fault there is gets told.
 fn table_in(bytes: &[u8]) -> Result<Table, Fault>
     ensures found { Found bytes.now result }
     ensures inside { Inside bytes.now result }
     ensures exact { Exact bytes.now result }
 {
-    read_in_turn(bytes)
+    let body = expect_field(bytes, TABLE_TAG, TABLE_CODES, Layer::Record)?;
+    // It has the length that was due, so it is an array.
+    let codes: [u8; TABLE_CODES] = body.try_into().unwrap();
+    let table = table_of(codes).map_err(|refusal| Fault::here(refusal, Layer::Record))?;
+    within(read_end(&bytes[TABLE_LENGTH..]), TABLE_LENGTH).map(|()| table)
 }
 
 impl Table {
-    /// Takes over the table that `bytes` are the writing of, one field with the tag 18 and 16 codes.
+    /// Takes over the table that `bytes` are the writing of, one field with the tag of a table and a code for each pair of kinds.
     /// What is refused leaves the table as it was.
     pub fn read(&mut self, bytes: &[u8]) -> Result<(), Fault>
         ensures taken { Taken (table_in bytes.now) self.old result self.new }

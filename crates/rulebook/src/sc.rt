@@ -7,7 +7,7 @@ use super::rule_book::RuleBook;
 use super::seen::Seen;
 
 /// The book that keeps every pair.
-#[derive(Clone, Copy)]
+#[derive(Debug, Clone, Copy, PartialEq, Eq)]
 pub struct Sc;
 
 impl RuleBook for Sc {

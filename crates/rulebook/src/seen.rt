@@ -4,10 +4,11 @@ ghost use Rattle.std.specs.Prelude.{◌≡◌, ◌<◌};
 ghost use Rattle.rulebook.specs.Books.{access_of, seen_of, conflict, depends_on};
 ghost use Rattle.rulebook.specs.Places.{touched, shares_address, row, place};
 
-use execution::{Action, Operation};
+use execution::{Action, Operation, shared};
 
 /// What an operation does, as far as a rule book may know: its kind, and its address if it has one.
-#[derive(Clone, Copy)]
+// Not `Action` with another type for its source: every book would then match on a source that is not there.
+#[derive(Debug, Clone, Copy, PartialEq, Eq)]
 pub enum Access {
     Load(u16),
     Store(u16),
@@ -15,11 +16,11 @@ pub enum Access {
     Branch,
 }
 
-impl Access {
-    /// The access of an action; which store a load saw is left out.
-    fn of(action: Action) -> Access
-        ensures { result ≡ access_of action }
-    {
+/// The access of an action; which store a load saw is left out.
+impl From<Action> for Access {
+    ghost from_gives = { λ a r. r ≡ access_of a };
+
+    fn from(action: Action) -> Self {
         match action {
             Action::Load { address, source: _ } => Access::Load(address),
             Action::Store { address } => Access::Store(address),
@@ -27,7 +28,9 @@ impl Access {
             Action::Branch => Access::Branch,
         }
     }
+}
 
+impl Access {
     /// The address that is touched, if any.
     fn address(self) -> Option<u16>
         ensures { result ≡ touched self }
@@ -42,10 +45,7 @@ impl Access {
     pub(super) fn shares_address(self, other: Access) -> bool
         ensures { result ≡ shares_address self other }
     {
-        match (self.address(), other.address()) {
-            (Some(mine), Some(theirs)) => mine == theirs,
-            _ => false,
-        }
+        shared(self.address(), other.address())
     }
 
     /// Do both touch one address, at least one of them as a store?
@@ -59,6 +59,7 @@ impl Access {
     }
 
     /// The row of the kind in a written table, which is its column too.
+    // Told by cases, since the place in a written table is a number and the kinds have none of their own.
     fn row(self) -> usize
         ensures row { result ≡ row self }
         ensures below { result < 4 }
@@ -81,7 +82,7 @@ impl Access {
 }
 
 /// An operation as a rule book sees it: its number, what it does and what it depends on; not its thread, not its source.
-#[derive(Clone, Copy)]
+#[derive(Debug, Clone, Copy, PartialEq, Eq)]
 pub struct Seen {
     pub number: u8,
     pub access: Access,
@@ -90,12 +91,13 @@ pub struct Seen {
 
 impl Seen {
     /// What a rule book sees of the operation with this number.
+    // Not a `From`, since the number stands beside the operation and not in it.
     pub fn of(number: u8, operation: Operation) -> Seen
         ensures { result ≡ seen_of number operation }
     {
         Seen {
             number,
-            access: Access::of(operation.action),
+            access: operation.action.into(),
             dependence: operation.dependence,
         }
     }
@@ -104,9 +106,6 @@ impl Seen {
     pub(super) fn depends_on(self, other: Seen) -> bool
         ensures { result ≡ depends_on self other }
     {
-        match self.dependence {
-            Some(number) => number == other.number,
-            None => false,
-        }
+        self.dependence == Some(other.number)
     }
 }

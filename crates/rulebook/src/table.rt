@@ -1,6 +1,7 @@
 //! A rule book that is written down, as a table of kinds.
 
 ghost use Rattle.std.specs.Prelude.{◌≡◌, true, false, replicate, MatchResult};
+ghost use Rattle.field.specs.declared.refusal.Refusal.TheVariants.{LawlessTable};
 ghost use Rattle.rulebook.specs.declared.seen.Seen.{Seen};
 ghost use Rattle.rulebook.specs.declared.entry.Entry.TheVariants.{Kept};
 ghost use Rattle.rulebook.specs.Books.{sc};
@@ -15,7 +16,7 @@ use field::Refusal;
 /// A book with an entry for each pair of kinds: the first operation's kind has the row, the second's the column,
 /// both in the order load, store, fence, branch.
 /// No table lets pass what the law keeps, so the entries for load and store, store and load, and two stores are never `MayPass`.
-#[derive(Clone, Copy)]
+#[derive(Debug, Clone, Copy, PartialEq, Eq)]
 pub struct Table {
     pub(super) entries: [Entry; 16],
     ghost lawful: { obeys entries ≡ true },
@@ -31,11 +32,15 @@ impl Table {
             entries: [Entry::Kept; 16],
         }
     }
+}
 
-    /// The table with these entries, if they obey the law.
-    pub fn of(entries: [Entry; 16]) -> Result<Table, Refusal>
-        ensures { MatchResult result (λ t. (obeys entries ≡ true) × (t.entries ≡ entries)) (λ e. (obeys entries ≡ false) × (e ≡ Refusal.LawlessTable)) }
-    {
+/// The table with these entries, if they obey the law.
+impl TryFrom<[Entry; 16]> for Table {
+    type Error = Refusal;
+
+    ghost try_from_gives = { λ entries r. MatchResult r (λ t. (obeys entries ≡ true) × (t.entries ≡ entries)) (λ e. (obeys entries ≡ false) × (e ≡ LawlessTable)) };
+
+    fn try_from(entries: [Entry; 16]) -> Result<Self, Refusal> {
         // Load and store, store and load, two stores.
         if entries[1].may_pass() || entries[4].may_pass() || entries[5].may_pass() {
             return Err(Refusal::LawlessTable);

@@ -8,7 +8,7 @@ use super::seen::{Access, Seen};
 
 /// The book that keeps loads and stores on their side of a fence, keeps branches and stores below an earlier branch,
 /// and beyond that only what the law keeps: two loads may pass each other even on one address.
-#[derive(Clone, Copy)]
+#[derive(Debug, Clone, Copy, PartialEq, Eq)]
 pub struct Weak;
 
 impl RuleBook for Weak {

@@ -4,3 +4,4 @@ pub mod Lists
 pub mod Masks
 pub mod Turns
 pub mod Trials
+pub mod Pairs

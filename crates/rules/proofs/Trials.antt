@@ -7,7 +7,7 @@ use Rattle.theory.specs.Order.{Rows, before, recorded, Settled, pairs, Says}
 use Rattle.theory.specs.Serial.{Derived, Supposed}
 use Rattle.theory.proofs.Counting.{settled_recorded}
 use Rattle.theory.proofs.Supposing.{derived_supposed, supposed_grows}
-use Rattle.rules.specs.Claims.{rows_of}
+use Rattle.order.specs.Rows.{rows_of}
 use Rattle.rules.proofs.Executions.{formed, rows_long, cut}
 
 -- o is the order that was lent, p has a before b recorded

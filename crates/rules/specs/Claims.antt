@@ -1,18 +1,10 @@
--- The claims of the program as calls of a case, and the rows that an order has of an execution.
-use Rattle.std.specs.Prelude.{ℕ, Bool, not, ◌&&◌, List, length, take, Some, None, Option, ◌==◌}
-use Rattle.execution.specs.declared.execution.Execution.{Execution}
+-- The claims of the program as calls of a case.
+use Rattle.std.specs.Prelude.{ℕ, Bool, not, ◌&&◌, List, Some, None, Option, ◌==◌}
 use Rattle.execution.specs.declared.operation.Operation.{Operation}
 use Rattle.execution.specs.Operations.{load_at, same_address, source}
-use Rattle.execution.specs.Calls.{ops}
-use Rattle.order.specs.declared.order.Order.{Order}
-use Rattle.theory.specs.Order.{Rows}
 use Rattle.theory.specs.Case.{Call, claim_a, claim_b, claim_c, split, close}
 use Rattle.rules.specs.declared.claim.Claim.{Claim}
 use Rattle.rules.specs.declared.claim.Claim.TheVariants as claim
-
--- the rows of an execution's operations, of the 32 that an order has
-abbrev pub rows_of : Execution → Order → Rows
-rows_of e o = take (length (ops e)) o.rows
 
 -- the call that a claim is
 abbrev pub call_of : Claim → Call

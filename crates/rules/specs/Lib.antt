@@ -1,1 +1,3 @@
 pub mod Claims
+pub mod Scans
+pub mod Trials

@@ -1,7 +1,7 @@
 //! What can be claimed of an execution.
 
 /// A claim, with the numbers of the operations that it names.
-#[derive(Clone, Copy)]
+#[derive(Debug, Clone, Copy, PartialEq, Eq)]
 pub enum Claim {
     /// By rule a of a load: the store is before the store that the load saw.
     A { load: u8, store: u8 },

@@ -6,7 +6,8 @@ ghost use Rattle.theory.specs.Order.{before, Settled, Says};
 ghost use Rattle.theory.specs.Serial.{Derived, Opening, Least};
 ghost use Rattle.theory.specs.Lists.{first_by};
 ghost use Rattle.theory.specs.Case.{pair, with_pair, lacks, claims};
-ghost use Rattle.rules.specs.Claims.{rows_of, call_of, called};
+ghost use Rattle.order.specs.Rows.{rows_of};
+ghost use Rattle.rules.specs.Claims.{call_of, called};
 
 use super::claim::Claim;
 use super::missing::first_missing;
@@ -25,20 +26,18 @@ fn record_claim(execution: &Execution, order: &mut Order, claim: Claim)
 
 /// Records the first pair that the rules ask for and the order lacks, and says by which claim.
 pub fn record_first(execution: &Execution, order: &mut Order) -> Option<Claim>
-    requires { Settled (length (ops execution.now)) (rows_of execution.now order.old) }
     ensures first { called result ≡ first_by (lacks (ops execution.now) (rows_of execution.now order.old)) (claims (ops execution.now)) }
     ensures recorded { MatchOption result (order.new ≡ order.old) (λ claim. order.new.rows ≡ with_pair (ops execution.now) order.old.rows (call_of claim)) }
-    ensures settled { Settled (length (ops execution.now)) (rows_of execution.now order.new) }
+    ensures settled { Settled (length (ops execution.now)) (rows_of execution.now order.old) → Settled (length (ops execution.now)) (rows_of execution.now order.new) }
 {
-    match first_missing(execution, order) {
-        Some(claim) => {
-            record_claim(execution, order, claim);
-            Some(claim)
-        }
-        None => None,
-    }
+    let claim = first_missing(execution, order)?;
+    record_claim(execution, order, claim);
+    Some(claim)
 }
 
+// The execution and the order are two parameters, here and wherever both stand: a case holds the execution in the value that never changes
+// and the order in the value that does, so that a struct of both would be built anew at each call.
+// That an order is settled is a clause, and is asked only where it is needed: the rules take any order.
 /// Closes the order under the three rules: it then says exactly what follows from what it said.
 /// From the opening order that is the least order.
 pub fn close_under_rules(execution: &Execution, order: &mut Order)

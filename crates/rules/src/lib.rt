@@ -8,6 +8,7 @@ mod pair;
 mod rule_a;
 mod rule_b;
 mod rule_c;
+mod scan;
 mod size;
 mod split;
 mod trial;

@@ -1,10 +1,10 @@
 //! What would follow if one operation were before another.
 
-ghost use Rattle.std.specs.Prelude.{◌≡◌, ◌-◌, ◌<◌, length};
+ghost use Rattle.std.specs.Prelude.{◌≡◌, ◌<◌, length};
 ghost use Rattle.execution.specs.Calls.{ops};
-ghost use Rattle.theory.specs.Order.{Rows, Settled, pairs, cyclic, Says};
-ghost use Rattle.theory.specs.Serial.{Supposed};
-ghost use Rattle.rules.specs.Claims.{rows_of};
+ghost use Rattle.theory.specs.Order.{Settled};
+ghost use Rattle.order.specs.Rows.{rows_of};
+ghost use Rattle.rules.specs.Trials.{Found};
 
 use super::closing::close_under_rules;
 use super::size::size;
@@ -16,7 +16,7 @@ fn suppose(execution: &Execution, order: &mut Order, a: usize, b: usize) -> (u32
     requires settled { Settled (length (ops execution.now)) (rows_of execution.now order.old) }
     requires a_in_bounds { a < length (ops execution.now) }
     requires b_in_bounds { b < length (ops execution.now) }
-    ensures { (Q : Rows) × Says (ops execution.now) Q (Supposed (ops execution.now) (rows_of execution.now order.old) a b) × (result.0 ≡ pairs Q - pairs (rows_of execution.now order.old)) × (result.1 ≡ cyclic Q) }
+    ensures { Found (ops execution.now) (rows_of execution.now order.old) a b result }
 {
     let n = size(execution);
     let had = order.pairs(n);
@@ -32,9 +32,8 @@ pub fn what_if(execution: &Execution, order: &mut Order, a: usize, b: usize) -> 
     requires a_in_bounds { a < length (ops execution.now) }
     requires b_in_bounds { b < length (ops execution.now) }
     ensures kept { order.new ≡ order.old }
-    ensures supposed { (Q : Rows) × Says (ops execution.now) Q (Supposed (ops execution.now) (rows_of execution.now order.old) a b) × (result.0 ≡ pairs Q - pairs (rows_of execution.now order.old)) × (result.1 ≡ cyclic Q) }
+    ensures supposed { Found (ops execution.now) (rows_of execution.now order.old) a b result }
 {
-    let saved = *order;
-    let guard = Restore { order, saved };
+    let guard = Restore::lend(order);
     suppose(execution, guard.order, a, b)
 }

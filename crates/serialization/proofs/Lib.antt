@@ -1,3 +1,4 @@
 pub mod Lists
 pub mod Serials
 pub mod Ready
+mod Kept

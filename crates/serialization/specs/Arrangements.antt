@@ -1,19 +1,14 @@
--- Arrangements, and which operation may be placed next, where the placed are the bits of a number.
-use Rattle.std.specs.Prelude.{ℕ, Bool, not, ◌&&◌, List, map, take}
+-- Which operation may be placed next, where the placed are the bits of a number.
+use Rattle.std.specs.Prelude.{ℕ, Bool, not, ◌&&◌, map}
 use Rattle.std.specs.List.{range_with_len}
 use Rattle.theory.specs.Lists.{any}
 use Rattle.theory.specs.Order.{Rows, before}
 use Rattle.order.specs.Bits.{bit}
-use Rattle.serialization.specs.declared.arrangement.Arrangement.{Arrangement}
-
--- the numbers of an arrangement
-abbrev pub arranged : Arrangement → List ℕ
-arranged a = take a.count a.numbers
 
 -- one of the first n that is not placed is before a
-abbrev pub held : Rows → ℕ → ℕ → ℕ → Bool
-held R placed n a = any (map (λ x. before R x a && not (bit placed x)) (range_with_len 0 n))
+abbrev pub waits : Rows → ℕ → ℕ → ℕ → Bool
+waits R placed n a = any (map (λ x. before R x a && not (bit placed x)) (range_with_len 0 n))
 
 -- a is not placed, and all of the first n that are before it are
 abbrev pub free : Rows → ℕ → ℕ → ℕ → Bool
-free R placed n a = not (bit placed a) && not (held R placed n a)
+free R placed n a = not (bit placed a) && not (waits R placed n a)

@@ -1,41 +1,34 @@
 //! Where the operations stand in an order.
 
-ghost use Rattle.std.specs.Prelude.{◌≡◌, ℕ, ◌<◌, ◌≤◌, slice_index};
+ghost use Rattle.std.specs.Prelude.{◌≡◌, ℕ, ◌<◌, slice_index};
 ghost use Rattle.theory.specs.Lists.{place as place_in, count as count_in};
+
+use std::array;
 
 /// Where a first stands in an order; the order's length where it does not.
 fn place(order: &[u8], a: usize) -> usize
     ensures { result ≡ place_in order.now a }
 {
-    for (i, number) in order.iter().enumerate() {
-        if usize::from(*number) == a {
-            return i;
-        }
-    }
-    order.len()
+    order
+        .iter()
+        .position(|number| usize::from(*number) == a)
+        // The length stands for no place, as in the definition `place`.
+        .unwrap_or(order.len())
 }
 
 /// How often a stands in an order.
 pub(super) fn count(order: &[u8], a: usize) -> usize
     ensures { result ≡ count_in order.now a }
 {
-    let mut times = 0;
-    for number in order {
-        if usize::from(*number) == a {
-            times += 1;
-        }
-    }
-    times
+    order
+        .iter()
+        .filter(|number| usize::from(**number) == a)
+        .count()
 }
 
-/// The places of the first n operations, found once, since they are compared pair by pair.
-pub(super) fn places(n: usize, order: &[u8]) -> [usize; 32]
-    requires { n ≤ 32 }
-    ensures { (k : ℕ) → k < n → slice_index result k ≡ place_in order.now k }
+/// The places of all numbers that an operation may have, found once, since they are compared pair by pair.
+pub(super) fn places(order: &[u8]) -> [usize; 32]
+    ensures { (k : ℕ) → k < 32 → slice_index result k ≡ place_in order.now k }
 {
-    let mut at = [0; 32];
-    for a in 0..n {
-        at[a] = place(order, a);
-    }
-    at
+    array::from_fn(|a| place(order, a))
 }

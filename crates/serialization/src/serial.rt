@@ -1,10 +1,11 @@
 //! Whether an order is a serialization.
 
-ghost use Rattle.std.specs.Prelude.{ℕ, ◌≤◌, Bool, length, take, Decides};
+ghost use Rattle.std.specs.Prelude.{◌≡◌, ℕ, ◌≤◌, ◌<◌, Bool, length, take, Decides};
+ghost use Rattle.std.specs.List.{range_with_len, list_all};
 ghost use Rattle.execution.specs.Calls.{ops};
 ghost use Rattle.theory.specs.Order.{Says};
 ghost use Rattle.theory.specs.Serial.{LawfulOrder, Opening, Serialization};
-ghost use Rattle.serialization.specs.Serials.{EachOnce, Keeps, NoneBetween};
+ghost use Rattle.serialization.specs.Serials.{EachOnce, kept_by, free_of};
 
 use super::places::{count, places};
 use execution::Execution;
@@ -14,45 +15,43 @@ use order::Order;
 fn each_once(n: usize, order: &[u8]) -> bool
     ensures { Decides result (EachOnce n order.now) }
 {
-    for a in 0..n {
-        if count(order, a) != 1 {
-            return false;
-        }
-    }
-    true
+    (0..n).all(|a| count(order, a) == 1)
+}
+
+/// Does a stand before all that it is recorded before?
+fn keeps_after(recorded: &Order, n: usize, at: &[usize; 32], a: usize) -> bool
+    requires n_fits { n ≤ 32 }
+    requires a_in_bounds { a < n }
+    ensures { result ≡ kept_by n (take n recorded.now.rows) at.now a }
+{
+    (0..n).all(|b| !recorded.stands(n, a, b) || at[a] < at[b])
 }
 
 /// Do the places keep to what is recorded of the first n operations?
 fn keeps(recorded: &Order, n: usize, at: &[usize; 32]) -> bool
     requires { n ≤ 32 }
-    ensures { Decides result (Keeps n (take n recorded.now.rows) at.now) }
+    ensures { result ≡ list_all (kept_by n (take n recorded.now.rows) at.now) (range_with_len 0 n) }
 {
-    for a in 0..n {
-        for b in 0..n {
-            if recorded.stands(n, a, b) && at[b] <= at[a] {
-                return false;
-            }
-        }
-    }
-    true
+    (0..n).all(|a| keeps_after(recorded, n, at, a))
 }
 
-/// Does no store to a load's address stand between the load and the store that it saw?
-fn none_between(execution: &Execution, at: &[usize; 32]) -> bool
-    ensures { Decides result (NoneBetween (ops execution.now) at.now) }
+/// Does no store to this load's address stand between the load and the store that it saw?
+fn sees_last(execution: &Execution, at: &[usize; 32], load: usize) -> bool
+    ensures { result ≡ free_of (ops execution.now) at.now load }
 {
-    let n = execution.len();
-    for load in 0..n {
-        let Some(source) = execution.source(load) else {
-            continue;
-        };
-        for store in 0..n {
-            if execution.touches(store, load) && at[source] < at[store] && at[store] < at[load] {
-                return false;
-            }
-        }
-    }
-    true
+    let Some(source) = execution.source(load) else {
+        return true;
+    };
+    !(0..execution.len()).any(|store| {
+        execution.touches(store, load) && at[source] < at[store] && at[store] < at[load]
+    })
+}
+
+/// The same of any load: does no store to its address stand between it and the store that it saw?
+fn none_between(execution: &Execution, at: &[usize; 32]) -> bool
+    ensures { result ≡ list_all (free_of (ops execution.now) at.now) (range_with_len 0 (length (ops execution.now))) }
+{
+    (0..execution.len()).all(|load| sees_last(execution, at, load))
 }
 
 /// Is the order a serialization? The opening order has the local order and the sources, so an order that keeps to it keeps to both.
@@ -63,6 +62,6 @@ pub fn is_serialization(execution: &Execution, opening: &Order, order: &[u8]) ->
     if order.len() != n || !each_once(n, order) {
         return false;
     }
-    let at = places(n, order);
+    let at = places(order);
     keeps(opening, n, &at) && none_between(execution, &at)
 }

@@ -13,24 +13,16 @@ pub fn names_unknown(execution: &Execution, order: &[u8]) -> bool
     ensures { result ≡ any (map (λ a. nat_le (length (ops execution.now)) a) order.now) }
 {
     let n = execution.len();
-    for number in order {
-        if usize::from(*number) >= n {
-            return true;
-        }
-    }
-    false
+    order.iter().any(|number| usize::from(*number) >= n)
 }
 
 /// Does the order name a number twice?
 fn names_twice(order: &[u8]) -> bool
     ensures { result ≡ any (map (λ a. nat_lt 1 (count_in order.now a)) order.now) }
 {
-    for number in order {
-        if count(order, usize::from(*number)) > 1 {
-            return true;
-        }
-    }
-    false
+    order
+        .iter()
+        .any(|number| count(order, usize::from(*number)) > 1)
 }
 
 /// Is the order longer or shorter than the execution, or does it name an operation twice?

@@ -1,56 +1,45 @@
 //! Which orders of the record each rule book keeps.
 
-use anyhow::anyhow;
-use execution::{Execution, Operation};
-use rulebook::{Book, RuleBook, Seen};
+use execution::Execution;
+use rulebook::{Book, Dependence, RuleBook, Sc, Seen, Weak};
+use std::alloc::{AllocError, Global};
 
-/// Both operations stand in one thread from 1 to 8, so that a book is asked about them.
-fn asked(first: Operation, second: Operation) -> bool {
-    first.thread > 0 && first.thread == second.thread
-}
-
-/// Prints the pairs of a thread that the book keeps, and how many it lets pass.
-fn print_kept<B: RuleBook>(
-    rt: &HostRuntime,
-    execution: &Execution,
-    book: &B,
-) -> anyhow::Result<()> {
-    let mut passed = 0u32;
+/// The pairs that a book is asked about: both operations stand in one thread from 1 to 8.
+fn asked(heap: Global, execution: &Execution) -> Result<Vec<(Seen, Seen)>, AllocError> {
+    let mut pairs = Vec::new(heap);
     for a in 0..32u8 {
-        for b in a..32u8 {
-            let (Some(first), Some(second)) = (
-                execution.operation(usize::from(a)),
-                execution.operation(usize::from(b)),
-            ) else {
-                continue;
-            };
-            if a == b || !asked(first, second) {
-                continue;
-            }
-            if book.kept(Seen::of(a, first), Seen::of(b, second)) {
-                println!(rt; "  {a} before {b}")?;
-            } else {
-                passed = passed.saturating_add(1);
+        for b in a + 1..32 {
+            if let Some(first) = execution.operation(usize::from(a))
+                && let Some(second) = execution.operation(usize::from(b))
+                && first.thread > 0
+                && first.thread == second.thread
+            {
+                pairs.push((Seen::of(a, first), Seen::of(b, second)))?;
             }
         }
     }
-    println!(rt; "  and lets {passed} pass.")?;
-    Ok(())
+    Ok(pairs)
 }
 
-/// Asks the three books that have a code.
+/// Prints the pairs that each book keeps, and how many it lets pass.
 pub(super) fn compare(rt: &HostRuntime, execution: &Execution) -> anyhow::Result<()> {
-    for code in 1..4u8 {
-        let name = match code {
-            1 => "SC, which keeps every pair,",
-            2 => "WEAK",
-            _ => "WEAK with dependences",
-        };
-        let Ok(book) = Book::by_code(code) else {
-            return Err(anyhow!("a book code from 1 to 3 was refused"));
-        };
+    let pairs = asked(rt.alloc(), execution)?;
+    for (name, book) in [
+        ("SC, which keeps every pair,", Book::Sc(Sc)),
+        ("WEAK", Book::Weak(Weak)),
+        (
+            "WEAK with dependences",
+            Book::WeakWithDependence(Dependence(Weak)),
+        ),
+    ] {
         println!(rt; "{name} keeps")?;
-        print_kept(rt, execution, &book)?;
+        let (kept, passed): (Vec<_>, Vec<_>) = pairs
+            .iter()
+            .partition(rt.alloc(), |(first, second)| book.kept(*first, *second))?;
+        for (first, second) in kept {
+            println!(rt; "  {} before {}", first.number, second.number)?;
+        }
+        println!(rt; "  and lets {} pass.", passed.len())?;
     }
     Ok(())
 }

@@ -1,55 +1,33 @@
 //! Broken copies of the record: each is refused for one reason, at one byte, and leaves the execution as it was.
 
-use super::words::{finder, reason};
-use anyhow::anyhow;
+use anyhow::{Context, bail};
 use execution::Execution;
-use field::Fault;
 
-/// Says why bytes were refused, and where.
-pub(super) fn report(rt: &HostRuntime, fault: Fault) -> anyhow::Result<()> {
-    let number = fault.refusal.number();
-    let byte = fault.byte;
-    let found = finder(fault.layer);
-    let text = reason(fault.refusal);
-    println!(rt; "  refused {number} at byte {byte}, found in the {found}: {text}.")?;
+/// Reads bytes that are no record, and says why they were refused, and where.
+fn try_bytes(rt: &HostRuntime, execution: &mut Execution, bytes: &[u8]) -> anyhow::Result<()> {
+    let Err(fault) = execution.read(bytes) else {
+        bail!("a broken record was accepted");
+    };
+    println!(rt; "  {fault}.")?;
     Ok(())
 }
 
-/// Reads a copy of `bytes` in which one byte is another.
-fn try_copy(
-    rt: &HostRuntime,
-    execution: &mut Execution,
-    bytes: &[u8],
-    at: usize,
-    byte: u8,
-) -> anyhow::Result<()> {
-    let mut copy = bytes.to_vec(rt.alloc())?;
-    if at >= copy.len() {
-        return Err(anyhow!("the byte to break lies past the record"));
-    }
-    copy[at] = byte;
-    println!(rt; "With byte {at} turned into {byte} it is")?;
-    match execution.read(&copy) {
-        Ok(()) => Err(anyhow!("a broken record was accepted")),
-        Err(fault) => report(rt, fault),
-    }
-}
-
-/// Breaks the record in several places.
+/// Breaks the record in several places, one byte at a time, and then cuts it off.
 pub(super) fn try_copies(
     rt: &HostRuntime,
     execution: &mut Execution,
     bytes: &[u8],
 ) -> anyhow::Result<()> {
-    try_copy(rt, execution, bytes, 3, 2)?;
-    try_copy(rt, execution, bytes, 16, 9)?;
-    try_copy(rt, execution, bytes, 17, 7)?;
-    try_copy(rt, execution, bytes, 47, 1)?;
-    println!(rt; "Cut off in its middle it is")?;
-    match execution.read(&bytes[0..bytes.len() / 2]) {
-        Ok(()) => return Err(anyhow!("half a record was accepted")),
-        Err(fault) => report(rt, fault)?,
+    for (at, byte) in [(3, 2), (16, 9), (17, 7), (47, 1)] {
+        let mut copy = bytes.to_vec(rt.alloc())?;
+        *copy
+            .get_mut(at)
+            .context("the byte to break lies past the record")? = byte;
+        println!(rt; "With byte {at} turned into {byte} it is")?;
+        try_bytes(rt, execution, &copy)?;
     }
+    println!(rt; "Cut off in its middle it is")?;
+    try_bytes(rt, execution, &bytes[..bytes.len() / 2])?;
     println!(rt; "After all that the execution is as it was.")?;
     Ok(())
 }

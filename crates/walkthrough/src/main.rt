@@ -22,13 +22,13 @@ const MESSAGE: [u8; 58] = [
     0x11, 0, 6, 2, 1, 0, 1, 0, 4, // 5: thread 2 loads 1, and saw 0; it depends on 4
 ];
 
+/// Reads the record, tells what each module finds in it, and lists it once more after the broken copies.
+// The runtime and the execution stay two parameters: each module takes the runtime to print one thing, as functions of `std` do.
+// The case in `story` is used by every method there, so it stands in a `Teller` with its runtime.
 fn tell(rt: &HostRuntime) -> anyhow::Result<()> {
     let mut execution = Execution::new();
     println!(rt; "A record of {} bytes comes from the bench.", MESSAGE.len())?;
-    match execution.read(&MESSAGE) {
-        Ok(()) => {}
-        Err(fault) => return broken::report(rt, fault),
-    }
+    execution.read(&MESSAGE)?;
     record::list(rt, &execution)?;
     record::write_back(rt, &execution, &MESSAGE)?;
     books::compare(rt, &execution)?;

@@ -1,15 +1,14 @@
 //! What is known of the order of a record's operations, under a book.
 
-ghost use Rattle.std.specs.Prelude.{ℕ, length};
+ghost use Rattle.std.specs.Prelude.{length};
 ghost use Rattle.execution.specs.Calls.{ops};
 ghost use Rattle.theory.specs.Order.{Settled};
-ghost use Rattle.rules.specs.Claims.{rows_of};
+ghost use Rattle.order.specs.Rows.{rows_of};
 
-use anyhow::anyhow;
 use execution::Execution;
 use opening::{open, undecided};
 use order::Order;
-use rulebook::Book;
+use rulebook::{RuleBook, Sc, Weak};
 use rules::{Claim, record_first};
 
 /// Says by which rule a pair came, and which it is.
@@ -39,11 +38,8 @@ fn tell_least(rt: &HostRuntime, execution: &Execution, opening: &Order) -> anyho
     requires { Settled (length (ops execution.now)) (rows_of execution.now opening.now) }
 {
     let mut order = *opening;
-    for _ in 0..1024 {
-        match record_first(execution, &mut order) {
-            Some(claim) => tell_claim(rt, execution, claim)?,
-            None => break,
-        }
+    while let Some(claim) = record_first(execution, &mut order) {
+        tell_claim(rt, execution, claim)?;
     }
     if order.cyclic(execution.len()) {
         println!(rt; "  and then some operation is before itself: no memory can have done this.")?;
@@ -53,12 +49,14 @@ fn tell_least(rt: &HostRuntime, execution: &Execution, opening: &Order) -> anyho
     Ok(())
 }
 
-/// Opens the order of the record under the book with this code.
-fn tell_one(rt: &HostRuntime, execution: &Execution, code: u8, name: &str) -> anyhow::Result<()> {
-    let Ok(book) = Book::by_code(code) else {
-        return Err(anyhow!("a book code from 1 to 3 was refused"));
-    };
-    let opened = open(execution, &book);
+/// Opens the order of the record under a book.
+fn tell_under<B: RuleBook>(
+    rt: &HostRuntime,
+    execution: &Execution,
+    name: &str,
+    book: &B,
+) -> anyhow::Result<()> {
+    let opened = open(execution, book);
     let m = opened.opening.missing(execution.len());
     let s = undecided(execution, &opened.opening);
     println!(rt;
@@ -69,6 +67,6 @@ fn tell_one(rt: &HostRuntime, execution: &Execution, code: u8, name: &str) -> an
 
 /// Opens the order of the record under two books, and tells what the rules add to each.
 pub(super) fn tell(rt: &HostRuntime, execution: &Execution) -> anyhow::Result<()> {
-    tell_one(rt, execution, 1, "SC")?;
-    tell_one(rt, execution, 2, "WEAK")
+    tell_under(rt, execution, "SC", &Sc)?;
+    tell_under(rt, execution, "WEAK", &Weak)
 }

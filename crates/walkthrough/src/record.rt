@@ -1,21 +1,15 @@
 //! What a record says, and that writing it gives the same bytes.
 
-use super::words::sentence;
-use anyhow::anyhow;
+use super::words::Sentence;
+use anyhow::ensure;
 use execution::Execution;
 
 /// Lists the operations, one to a line.
 pub(super) fn list(rt: &HostRuntime, execution: &Execution) -> anyhow::Result<()> {
     println!(rt; "It has {} operations:", execution.len())?;
     for number in 0..execution.len() {
-        let Some(operation) = execution.operation(number) else {
-            return Err(anyhow!("an operation below the length is missing"));
-        };
-        let text = sentence(rt.alloc(), operation)?;
-        match operation.dependence {
-            Some(earlier) => println!(rt; "  {number}: {text}; it depends on {earlier}")?,
-            None => println!(rt; "  {number}: {text}")?,
-        }
+        let operation = execution.operation(number).unwrap();
+        println!(rt; "  {number}: {}", Sentence(operation))?;
     }
     Ok(())
 }
@@ -27,11 +21,11 @@ pub(super) fn write_back(
     bytes: &[u8],
 ) -> anyhow::Result<()> {
     let mut out = [0u8; 292];
-    match execution.write(&mut out) {
-        Ok(size) if size == bytes.len() && &out[0..size] == bytes => {
-            println!(rt; "Written back it has the same {size} bytes.")?;
-            Ok(())
-        }
-        _ => Err(anyhow!("written back, the record has other bytes")),
-    }
+    let size = execution.write(&mut out)?;
+    ensure!(
+        out.get(..size) == Some(bytes),
+        "written back, the record has other bytes"
+    );
+    println!(rt; "Written back it has the same {size} bytes.")?;
+    Ok(())
 }

@@ -1,29 +1,25 @@
-use Rattle.std.proofs.Common.{ap, ◌∙◌, arith}
-use lib.Bits.{bit_or}
-use Rattle.std.proofs.lemmas.Nat.{one_shl}
+use Rattle.std.proofs.Common.{◌*◌, ◌%◌, ◌^◌, bit_or, ap, ◌∙◌, arith, rules}
+use Rattle.std.proofs.lemmas.Iterator.{YieldsList-from_range}
+use Rattle.std.proofs.lemmas.Iterator.Consumers.{YieldsList-from_filter, fold_from_yields_List}
+use borrow.Author.Tests.{tests}
 use Rattle.execution.specs.Calls.{ops}
+use Rattle.order.specs.Bits.{bit}
 use Rattle.theory.specs.Serial.{local}
-use Rattle.opening.proofs.Room.{few}
-use Rattle.opening.proofs.Kept.{row_yes, row_no, row_end, kept_here}
+use Rattle.order.proofs.Room.{few}
+use Rattle.opening.proofs.Kept.{marks_all, kept_here}
 use Rattle.opening.proofs.local.local_row.Goals as goal
-use Rattle.opening.proofs.local.local_row.Goals.{then-is_local, else-is_local}
-
-pub loop-b-preserved : goal.loop-b-preserved
-loop-b-preserved g c =
-    let e = c.args.execution.now in
-    let f = local (g.B.RuleBook.keeps c.args.book.now) (ops e) c.args.a in
-    let b = c.loop-b.b in
-    let row = c.loop-b.row in
-    let h = few e in
-    elim c.if-is_local.branch [
-      | then-is_local w ↦ row_yes f row b c.loop-b.invariant c.if-is_local.row (w.row-is ∙ ap (bit_or row) (one_shl b 32 (omega arith))) w.if-is_local.ensures
-      | else-is_local w ↦ row_no f row b c.loop-b.invariant c.if-is_local.row w.row-is w.if-is_local.ensures
-    ]
 
 pub returns : goal.returns
 returns g c =
     let e = c.args.execution.now in
     let keeps = g.B.RuleBook.keeps c.args.book.now in
     let law = g.met.B.RuleBook.lawful c.args.book.now in
-    let n = c.len-b-end.ensures in
-    row_end (local keeps (ops e) c.args.a) c.loop-b.row c.loop-b.b c.loop-b.invariant (λ y t. let h = (kept_here keeps law (ops e) c.args.a y t).1 in omega arith)
+    let f = local keeps (ops e) c.args.a in
+    let n = c.len.result in
+    let at = c.len.ensures in
+    let k = few e in
+    ap bit
+    (fold_from_yields_List _ (λ v b. bit_or v ((1 * 2 ^ b) % 2 ^ 32)) 0 c.fold.result c.fold.ensures.ran
+    (YieldsList-from_filter _ f (YieldsList-from_range 0 n n c.filter.ensures.source (omega arith)) c.filter.ensures.closure (λ x b q k. search (rules, tests)))
+    (λ v x w q k. search (rules, tests)))
+    ∙ marks_all f n (omega arith) (λ y t. let h = (kept_here keeps law (ops e) c.args.a y t).1 in omega arith)

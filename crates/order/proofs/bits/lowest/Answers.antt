@@ -1,6 +1,6 @@
-use Rattle.std.proofs.Common.{arith}
-use Rattle.order.proofs.Bitwise.{lowest_set}
+use Rattle.std.proofs.Common.{rules, arith}
+use Rattle.order.proofs.Bitwise.{lowest_then}
 use Rattle.order.proofs.bits.lowest.Goals as goal
 
-pub returns-else-row-eq0 : goal.returns-else-row-eq0
-returns-else-row-eq0 c = lowest_set 32 c.args.row (omega arith) (omega arith)
+pub returns : goal.returns
+returns c = lowest_then c.args.row (omega arith) c.then.result c.then.ensures.variant (search rules)

@@ -1,6 +1,6 @@
 use Rattle.execution.specs.Calls.{ops}
 use Rattle.theory.specs.Order.{missing}
-use Rattle.rules.specs.Claims.{rows_of}
+use Rattle.order.specs.Rows.{rows_of}
 use Rattle.rules.proofs.Turns.{Closing}
 use Rattle.rules.proofs.closing.close_under_rules.Given as goal
 

@@ -1,23 +1,19 @@
-use Rattle.std.proofs.Common.{◌≡◌, None}
-use Rattle.execution.specs.Calls.{ops}
-use Rattle.theory.specs.Case.{lacks}
-use Rattle.rules.specs.Claims.{rows_of}
-use Rattle.rules.proofs.Scans.{Passed}
-use Rattle.rules.proofs.Lists.{of_first_c, of_second_c, of_third_c}
+use Rattle.std.proofs.Common.{◌≡◌, ℕ, ◌<◌, None}
+use Rattle.rules.proofs.Lists.{NoC, NoC_of_two, NoC_of_three}
 use Rattle.rules.proofs.rule_c.first_c.Given as goal
 
 abbrev pub invariant-scan : goal.invariant-scan
-invariant-scan l = Passed (lacks (ops l.execution) (rows_of l.execution l.order)) (of_first_c (ops l.execution)) l.first × (l.found ≡ None)
+invariant-scan l = ((x : ℕ) → x < l.first → NoC l.execution l.order x) × (l.found ≡ None)
 
 abbrev pub invariant-loop-second : goal.invariant-loop-second
 invariant-loop-second l =
-    Passed (lacks (ops l.execution) (rows_of l.execution l.order)) (of_first_c (ops l.execution)) l.first
-    × Passed (lacks (ops l.execution) (rows_of l.execution l.order)) (of_second_c (ops l.execution) l.first) l.second
+    ((x : ℕ) → x < l.first → NoC l.execution l.order x)
+    × ((x : ℕ) → x < l.second → NoC_of_two l.execution l.order l.first x)
     × (l.found ≡ None)
 
 abbrev pub invariant-loop-a : goal.invariant-loop-a
 invariant-loop-a l =
-    Passed (lacks (ops l.execution) (rows_of l.execution l.order)) (of_first_c (ops l.execution)) l.first
-    × Passed (lacks (ops l.execution) (rows_of l.execution l.order)) (of_second_c (ops l.execution) l.first) l.second
-    × Passed (lacks (ops l.execution) (rows_of l.execution l.order)) (of_third_c (ops l.execution) l.first l.second) l.a
+    ((x : ℕ) → x < l.first → NoC l.execution l.order x)
+    × ((x : ℕ) → x < l.second → NoC_of_two l.execution l.order l.first x)
+    × ((x : ℕ) → x < l.a → NoC_of_three l.execution l.order l.first l.second x)
     × (l.found ≡ None)

@@ -1,9 +1,11 @@
-use Rattle.std.proofs.Common.{arith, rules}
-use Rattle.serialization.proofs.Lists.{place_found, place_absent}
+use Rattle.std.proofs.Common.{◌≡◌, ◌∙◌, sym, rules}
+use Rattle.std.proofs.lemmas.Iterator.{YieldsList-from_slice, IsFirst-from_position}
+use borrow.Author.Tests.{tests}
+use Rattle.serialization.proofs.Lists.{place_by}
 use Rattle.serialization.proofs.places.place.Goals as goal
 
-pub returns-then-from-a : goal.returns-then-from-a
-returns-then-from-a c = place_found c.args.order.now c.args.a c.loop-i.i (search rules) (search rules) c.loop-i.invariant
-
 pub returns : goal.returns
-returns c = place_absent c.args.order.now c.args.a (λ k h. c.loop-i.invariant k (omega arith))
+returns c =
+    let first = IsFirst-from_position _ _ _ (λ x. x ≡ c.args.a) (λ x. x ≡ c.args.a → ⊥) c.position.ensures.ran (YieldsList-from_slice c.args.order.now cc)
+    (λ x q k. search (rules, tests)) (λ x q k. search (rules, tests)) in
+    c.unwrap_or.ensures ∙ sym (place_by c.args.order.now c.args.a c.position.result first)

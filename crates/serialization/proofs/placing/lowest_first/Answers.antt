@@ -1,23 +1,42 @@
-use Rattle.std.proofs.Common.{◌<◌, arith}
+use Rattle.std.proofs.Common.{[], ◌∷◌, length, length-append, ap, arith, rules}
 use Rattle.execution.specs.Calls.{ops}
-use Rattle.serialization.specs.Arrangements.{arranged}
+use Rattle.room.specs.Held.{held}
 use Rattle.serialization.proofs.Serials.{few}
-use Rattle.serialization.proofs.Ready.{state_first, state_more, state_stuck}
+use Rattle.serialization.proofs.Ready.{space, state_none, state_more, state_stuck}
 use Rattle.serialization.proofs.placing.lowest_first.Goals as goal
 
-pub loop-arrangement-init : goal.loop-arrangement-init
-loop-arrangement-init c = state_first (ops c.args.execution.now) c.args.order.now.rows c.empty-arrangement.result.count c.empty-arrangement.result.numbers c.empty-arrangement.ensures
+pub loop-next-init : goal.loop-next-init
+loop-next-init c = state_none (ops c.args.execution.now) c.args.order.now.rows (held c.new-arrangement.result) (search rules)
 
-pub loop-arrangement-preserved : goal.loop-arrangement-preserved
-loop-arrangement-preserved c =
-    let here = c.loop-arrangement.arrangement in
-    let small = few c.args.execution.now in
-    let next : c.in-Some.next < c.len-n.result = c.in-Some.ensures.within in
-    state_more (ops c.args.execution.now) c.args.order.now.rows here.count c.loop-arrangement.placed (arranged here) c.loop-arrangement.invariant c.len-n.result c.len-n.ensures
-    (omega arith) c.in-Some.next (omega arith) c.in-Some.ensures.first c.push.new.self.count c.push.ensures.count (arranged c.push.new.self) c.push.ensures.more
+pub push-requires : goal.push-requires
+push-requires c =
+    let e = c.args.execution.now in
+    omega (
+      arith,
+      few e,
+      c.len-n.ensures,
+      space (ops e) c.args.order.now.rows c.loop-next.placed (held c.loop-next.arrangement) c.loop-next.invariant c.len-n.result c.len-n.ensures c.in-Some.next c.in-Some.ensures.within (omega (arith, few e, c.len-n.ensures)) c.in-Some.ensures.first,
+    )
 
-pub returns-in_default : goal.returns-in_default
-returns-in_default c =
-    let here = c.loop-arrangement.arrangement in
-    state_stuck (ops c.args.execution.now) c.args.order.now.rows here.count c.loop-arrangement.placed (arranged here) c.loop-arrangement.invariant c.len-n.result c.len-n.ensures
+pub loop-next-smaller : goal.loop-next-smaller
+loop-next-smaller c =
+    let e = c.args.execution.now in
+    let here = held c.loop-next.arrangement in
+    omega (
+      arith,
+      ap (λ xs. length xs) c.push.ensures,
+      length-append here (c.in-Some.next ∷ []),
+      c.len-n.ensures,
+      space (ops e) c.args.order.now.rows c.loop-next.placed here c.loop-next.invariant c.len-n.result c.len-n.ensures c.in-Some.next c.in-Some.ensures.within (omega (arith, few e, c.len-n.ensures)) c.in-Some.ensures.first,
+    )
+
+pub loop-next-preserved : goal.loop-next-preserved
+loop-next-preserved c =
+    let e = c.args.execution.now in
+    state_more (ops e) c.args.order.now.rows c.loop-next.placed (held c.loop-next.arrangement) c.loop-next.invariant c.len-n.result c.len-n.ensures c.in-Some.next c.in-Some.ensures.within (omega (arith, few e, c.len-n.ensures)) c.in-Some.ensures.first
+    (held c.push.new.self) c.push.ensures
+
+pub returns : goal.returns
+returns c =
+    state_stuck (ops c.args.execution.now) c.args.order.now.rows c.loop-next.placed (held c.loop-next.arrangement) c.loop-next.invariant c.len-n.result c.len-n.ensures
     c.in_default.ensures.first

@@ -1,11 +1,11 @@
-use Rattle.std.proofs.Common.{◌-◌}
+use Rattle.std.proofs.Common.{◌-◌, length}
 use Rattle.execution.specs.Calls.{ops}
-use Rattle.serialization.specs.Arrangements.{arranged}
+use Rattle.room.specs.Held.{held}
 use Rattle.serialization.proofs.Ready.{State}
 use Rattle.serialization.proofs.placing.lowest_first.Given as goal
 
-abbrev pub invariant-loop-arrangement : goal.invariant-loop-arrangement
-invariant-loop-arrangement l = State (ops l.execution) l.order.rows l.arrangement.count l.placed (arranged l.arrangement)
+abbrev pub invariant-loop-next : goal.invariant-loop-next
+invariant-loop-next l = State (ops l.execution) l.order.rows l.placed (held l.arrangement)
 
-abbrev pub decreases-loop-arrangement : goal.decreases-loop-arrangement
-decreases-loop-arrangement l = l.n - l.arrangement.count
+abbrev pub decreases-loop-next : goal.decreases-loop-next
+decreases-loop-next l = length (ops l.execution) - length (held l.arrangement)

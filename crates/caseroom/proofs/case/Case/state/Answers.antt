@@ -1,13 +1,9 @@
-use Rattle.std.proofs.Common.{refl, ap}
-use Rattle.desk.specs.Model.{state_of}
+use Rattle.std.proofs.Common.{rules}
 use Rattle.caseroom.proofs.Reach.{serial_true, impossible_true}
 use Rattle.caseroom.proofs.case.Case.state.Goals as goal
 
-pub returns : goal.returns
-returns c =
-    let s = c.args.self.now in
-    record {
-      is = refl;
-      serial = λ e. serial_true s.given s.desk s.reached (ap state_of e);
-      impossible = λ e. impossible_true s.given s.desk s.reached (ap state_of e);
-    }
+pub returns-clause-serial : goal.returns-clause-serial
+returns-clause-serial c = search (rules, serial_true)
+
+pub returns-clause-impossible : goal.returns-clause-impossible
+returns-clause-impossible c = search (rules, impossible_true)

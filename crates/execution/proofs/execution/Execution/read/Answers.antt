@@ -1,6 +1,6 @@
 use mir.Facts.{Fits-lt-pow}
 use Rattle.std.proofs.lemmas.Result.{err_from_is_err_and}
-use Rattle.execution.specs.Listings.{listed}
+use Rattle.room.specs.Held.{held}
 use Rattle.execution.proofs.Accepted.{record_formed, record_bytes}
 use Rattle.execution.proofs.Promised.{refused_taken, refused_same, accepted_taken, accepted_same}
 use Rattle.execution.proofs.execution.Execution.read.Goals as goal
@@ -21,4 +21,4 @@ returns c =
     let l = c.in_ok-listing.listing in
     let h = c.in_ok-listing.ensures in
     let s = c.args.bytes.now in
-    record { taken = accepted_taken s c.args.self.now _ h.told; same_bytes = record_bytes s (listed l) h.told (λ i. Fits-lt-pow (c.type_inv.bytes i)); same_execution = accepted_same s (listed l) h.told; near = tt }
+    record { taken = accepted_taken s c.args.self.now _ h.told; same_bytes = record_bytes s (held l) h.told (λ i. Fits-lt-pow (c.type_inv.bytes i)); same_execution = accepted_same s (held l) h.told; near = tt }

@@ -1,11 +1,9 @@
-use Rattle.std.proofs.Common.{◌<◌, length, sym, ◌∙◌, subst}
+use Rattle.std.proofs.Common.{◌≡◌, None, MatchOption, IsSomeAnd, rules, sym, ◌∙◌}
 use Rattle.execution.specs.Calls.{ops}
-use Rattle.execution.proofs.Asked.{load_found}
+use Rattle.execution.proofs.Asked.{source_asked}
 use Rattle.execution.proofs.execution.Execution.source.Goals as goal
 
-pub returns-in-Load : goal.returns-in-Load
-returns-in-Load c =
-    let x = c.args.self.now in
-    let p = load_found (ops x) c.args.load x.formed c.in-Some.operation c.in-Load.address c.in-Load.source c.in-Some.ensures c.in-Load.is in
-    let e = c.from.ensures in
-    (p.0, e ∙ p.1, subst (λ v. v < length (ops x)) (sym e) p.2)
+pub returns : goal.returns
+returns c =
+    let m : MatchOption c.source.result (c.map.result ≡ None) (λ x. IsSomeAnd c.map.result (λ y. y ≡ x)) = search rules in
+    source_asked (ops c.args.self.now) c.args.load c.in_ok-operation.field-0 c.source.result c.map.result c.args.self.now.formed (sym c.operation.ensures ∙ c.in_ok-operation.was) c.source.ensures m

@@ -1,24 +1,16 @@
-use Rattle.std.proofs.Common.{◌≡◌, ℕ, ◌<◌, ◌≤◌, get_or, take, ap, arith, rules}
-use lib.Count.{ones, ones-le}
-use Rattle.std.proofs.lemmas.List.{get_or-take}
-use Rattle.std.proofs.lemmas.List.Sums.{sum_by_more}
+use Rattle.std.proofs.Common.{◌≤◌, ◌^◌, length, take, arith, rules}
+use Rattle.std.proofs.iter.runs.Sources.{ranges}
+use Rattle.std.proofs.lemmas.Iterator.{YieldsList-from_slice}
+use Rattle.std.proofs.lemmas.Iterator.Adapters.{fits_from_length, at_most_from_yields_List}
 use Rattle.theory.specs.Order.{pairs}
 use Rattle.order.proofs.order.Order.pairs.Goals as goal
 
-pub overflow_add-count : goal.overflow_add-count
-overflow_add-count c =
-    let small : ones (get_or (take c.args.n c.args.self.now.rows) c.loop-row.row-index 0) ≤ 32 = ones-le 32 _ (search rules) in
-    omega arith
-
-pub loop-row-preserved : goal.loop-row-preserved
-loop-row-preserved c =
-    let rows = c.args.self.now.rows in
-    let i : ℕ = c.loop-row.row-index in
-    let here : i < c.args.n = search rules in
-    let row : ones (get_or (take c.args.n rows) i 0) ≡ ones (get_or rows i 0) = ap ones (get_or-take c.args.n rows i 0 here) in
-    let small : ones (get_or (take c.args.n rows) i 0) ≤ 32 = ones-le 32 _ (search rules) in
-    (omega arith, omega (arith, row, sum_by_more ones rows i 0 (search rules)))
+pub sum-requires-clause-fits : goal.sum-requires-clause-fits
+sum-requires-clause-fits c =
+    let rows = take c.args.n c.args.self.now.rows in
+    let few : length rows ≤ 32 = search rules in
+    fits_from_length _ _ 32 (2 ^ 32) (at_most_from_yields_List (YieldsList-from_slice rows cc) few) c.map.ensures.closure (omega arith) (λ x r q k. search rules)
 
 pub returns : goal.returns
 unfolding pairs
-returns c = search rules
+returns c = search (rules, ranges)

@@ -1,4 +1,4 @@
-use Rattle.std.proofs.Common.{◌≡◌, cond, ◌||◌, eqb, get_or, sym, ap, ◌∙◌, subst, arith, rules}
+use Rattle.std.proofs.Common.{◌≡◌, cond, ◌||◌, eqb, get_or, sym, ap, ◌∙◌, subst, arith}
 use lib.Bits.{bit_or}
 use Rattle.std.proofs.lemmas.Nat.{one_shl}
 use Rattle.theory.specs.Order.{before, recorded, Spread}
@@ -11,8 +11,8 @@ returns c =
     let rows = c.args.self.now.rows in
     let a = c.args.a in
     let b = c.args.b in
-    let same : c.loop-x.self.rows ≡ recorded a b rows =
-    as_recorded a b rows _ (search rules)
-    (λ x h. c.loop-x.invariant.0 x (omega arith)
+    let same : c.loop-x.row-items ≡ recorded a b rows =
+    as_recorded a b rows _ c.loop-x.invariant.0
+    (λ x h. c.loop-x.invariant.1 x (omega arith)
     ∙ ap (λ v. cond (eqb x a || before rows x a) (bit_or (get_or rows x 0) (bit_or (get_or rows b 0) v)) (get_or rows x 0)) (one_shl b 32 (omega arith))) in
     record { records = same; spreads = subst (Spread a b rows) (sym same) (recorded_spreads a b rows) }

@@ -1,9 +1,0 @@
-use Rattle.std.proofs.Common.{◌≡◌, ◌≤◌, count_by}
-use Rattle.std.specs.List.{range_with_len}
-use Rattle.execution.specs.Calls.{ops}
-use Rattle.theory.specs.Order.{undecided_pair}
-use Rattle.opening.specs.Orders.{rows_in}
-use Rattle.opening.proofs.rivals.undecided_with.Given as goal
-
-abbrev pub invariant-loop-t : goal.invariant-loop-t
-invariant-loop-t l = (l.count ≤ l.t) × (l.count ≡ count_by (undecided_pair (ops l.execution) (rows_in l.execution l.order) l.s) (range_with_len 0 l.t))

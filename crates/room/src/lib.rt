@@ -1,0 +1,6 @@
+//! Lists in a fixed room, so that nothing is allocated.
+#![tactic(auto)]
+
+mod room;
+
+pub use room::Room;

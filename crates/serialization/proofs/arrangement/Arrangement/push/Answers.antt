@@ -1,6 +1,0 @@
-use Rattle.std.proofs.Common.{refl, arith}
-use Rattle.std.proofs.lemmas.List.{take_more_set}
-use Rattle.serialization.proofs.arrangement.Arrangement.push.Goals as goal
-
-pub returns : goal.returns
-returns c = record { more = take_more_set c.args.self.now.numbers c.args.self.now.count c.args.number (omega arith); count = refl }
