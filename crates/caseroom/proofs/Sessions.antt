@@ -56,3 +56,7 @@ heard_out {keeps} law x {g} {h} d calls answers {i} same end e l says ran =
     let over = subst (λ (E : List Operation). Run (locally g) E (opened (at_first g)) qs rs (model g d)) e all in
     let under = subst (λ (L : ℕ → ℕ → Bool). Run L (ops x) (opened (at_first g)) qs rs (model g d)) (λ i a b. l a b i) over in
     subst (λ (k : Given). Session keeps (ops x) (at_first k) qs rs (model k d)) (sym same) (sessions keeps law (ops x) (formed x) (at_first g) says qs rs (model g d) under)
+
+-- a call was heard, whatever it and its answer are called
+pub heard_as : (g : Given) (pre post : Desk) {p q : theory.Call} {r s : theory.Answer} → p ≡ q → r ≡ s → HeardBy g pre q s post → HeardBy g pre p r post
+heard_as g pre post {p} {q} {r} {s} e f h = subst (λ (x : theory.Call). HeardBy g pre x r post) (sym e) (subst (λ (x : theory.Answer). HeardBy g pre q x post) (sym f) h)

@@ -19,6 +19,6 @@ heard (call.Least a b) = theory.least a b
 abbrev pub said : Result Reply Refusal → theory.Answer
 said (Ok reply.Admitted) = theory.admitted
 said (Ok (reply.Made t s)) = theory.made t (state_of s)
-said (Ok (reply.Supposed p c)) = theory.supposed p c
+said (Ok (reply.Supposed c p)) = theory.supposed p c
 said (Ok (reply.Says b)) = theory.says b
 said (Err e) = theory.refused e

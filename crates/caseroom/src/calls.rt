@@ -27,10 +27,14 @@ pub enum Reply {
     /// How many turns the house took, and the state after them.
     Made(u16, State),
     /// How many pairs would be added, and whether there would be a cycle.
-    Supposed { added: u32, cycle: bool },
+    // The byte first, so that an answer is no larger for it: fields lie in the order in which they stand here.
+    Supposed { cycle: bool, added: u32 },
     /// Yes or no.
     Says(bool),
 }
 
 /// What a call answers: a reply, or why it is turned away.
 pub type Answer = Result<Reply, Refusal>;
+
+// One who lends memory for answers pays for each.
+const _: () = prove!(size_of::<Answer>() == 12);

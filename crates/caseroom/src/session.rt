@@ -59,7 +59,7 @@ pub fn hear<B: RuleBook>(
         });
     }
     let mut case = Case::open(execution, book);
-    // by index: what holds at each step is a fact about the first i calls and the first i answers
+    // answers by index: what holds at each step is a fact about the first i calls and the first i answers
     for (i, call) in calls.iter().enumerate() {
         answers[i] = case.hear_one(*call);
     }

@@ -3,6 +3,7 @@ use Rattle.std.proofs.Common.{◌≡◌, ℕ, List, [], ◌∷◌, ◌++◌, map
 use mathlib.Core.List.{reverse-append}
 use lib.ListN.{length-map, length-reverse}
 use Rattle.theory.specs.Order.{Rows, recorded}
+use Rattle.theory.specs.Case as theory
 use Rattle.theory.specs.Case.{Model, undone}
 use Rattle.desk.specs.declared.choice.Side.TheVariants.{First, Second}
 use Rattle.desk.specs.declared.state.State.{State}
@@ -22,3 +23,8 @@ pub to_second : (n : ℕ) (R O : Rows) (cs : List Choice) (c : Choice) (s : Stat
     → O ≡ recorded c.other c.one (take n c.stood.rows) → es ≡ cs ++ record { one = c.one; other = c.other; side = Second; stood = c.stood } ∷ [] → s ≡ Open
     → ◌≡◌ {A = Model} (record { order = O; choices = stacked n es; state = state_of s; witness = witness_of s w }) (undone R (stacked n ds))
 to_second n R O cs c s w d f o e t = rw t (rw o (rw (stacked_push n cs _ e) (rw (stacked_push n cs c d) (rw f refl))))
+
+-- cases that agree part by part are one
+pub same_model : {o o' : Rows} {cs cs' : List theory.Choice} {s s' : theory.State} {w w' : List ℕ} → o ≡ o' → cs ≡ cs' → s ≡ s' → w ≡ w'
+    → ◌≡◌ {A = Model} (record { order = o; choices = cs; state = s; witness = w }) (record { order = o'; choices = cs'; state = s'; witness = w' })
+same_model p q r t = cc

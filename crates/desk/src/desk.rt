@@ -14,7 +14,7 @@ pub struct Desk {
     pub order: Order,
     pub(super) choices: Room<Choice, 496>,
     pub state: State,
-    // Read only where the state is `Serial`; not inside `State`, which every answer carries.
+    // What it holds counts only where the state is `Serial`. It stands beside `State`, which the house's answers carry, and not inside it.
     pub admitted: [u8; 32],
     ghost space: { length admitted ≡ 32 },
 }

@@ -1,8 +1,9 @@
--- What the rules tell of an operation that was found.
-use Rattle.std.proofs.Common.{◌≡◌, ℕ, ◌<◌, true, false, T, List, length, if◌then◌else◌, Some, None, Option, MatchOption, IsSomeAnd, nat_lt, arith}
+-- What the rules tell of an operation that was found, or was not.
+use Rattle.std.proofs.Common.{◌≡◌, ℕ, ◌<◌, true, false, T, cond, ltb, List, length, if◌then◌else◌, Some, None, Option, MatchOption, IsSomeAnd, nat_lt, arith}
 use Rattle.std.proofs.lemmas.Bool.Decides.{nat_tests}
+use Rattle.std.proofs.lemmas.List.{get_or_past}
 use Rattle.execution.specs.declared.operation.Operation.{Operation}
-use Rattle.execution.specs.Operations.{op, is_load, source_of, load_at, source, touches}
+use Rattle.execution.specs.Operations.{idle, op, is_load, source_of, load_at, source, touches}
 use Rattle.execution.specs.Formed.{formed?}
 use Rattle.execution.proofs.Tested.{well_formed}
 
@@ -21,3 +22,7 @@ source_asked E l o (Some x) None f p q m = absurd m
 source_asked E l o (Some x) (Some y) f p q m =
     let i = source_inside E l f in
     (grind (arith, nat_tests), grind (arith, nat_tests), grind (arith, nat_tests, i))
+
+-- where no operation is found, the idle one stands
+pub not_found : (E : List Operation) (k : ℕ) → None ≡ cond (ltb k (length E)) (Some (op E k)) None → op E k ≡ idle
+not_found E k h = grind (arith, nat_tests, get_or_past E k idle)

@@ -1,5 +1,5 @@
 -- Tests over the numbers below one.
-use Rattle.std.proofs.Common.{◌≡◌, ℕ, zero, suc, ◌<◌, ◌≤◌, Bool, true, false, ◌||◌, List, length, take, sym, refl, ap, ◌∙◌, add-one, arith}
+use Rattle.std.proofs.Common.{◌≡◌, ℕ, zero, suc, ◌+◌, ◌<◌, ◌≤◌, Bool, true, false, ◌||◌, List, length, take, sym, refl, ap, ◌∙◌, add-one, arith}
 use Rattle.std.specs.List.{list_any}
 use Rattle.std.proofs.lemmas.List.{take_all}
 use Rattle.std.proofs.lemmas.List.Folds.{list_any_more}
@@ -18,6 +18,10 @@ some_false p (suc n) h k l = grind (arith, some_false p n)
 pub some_none : (p : ℕ → Bool) (n : ℕ) → ((k : ℕ) → k < n → p k ≡ false) → some n p ≡ false
 some_none p zero h = refl
 some_none p (suc n) h = grind (arith, some_none p n, h)
+
+-- of no number below n and not of n is of no number below n + 1
+pub some_more : (p : ℕ → Bool) (n : ℕ) → some n p ≡ false → p n ≡ false → some (n + 1) p ≡ false
+some_more p n h e = rw add-one (ap (λ v. v || some n p) e ∙ h)
 
 -- a test of operations holds of some number exactly if it holds of some operation
 some_before : (f : Operation → Bool) (E : List Operation) (n : ℕ) → n ≤ length E → some n (λ k. f (op E k)) ≡ list_any f (take n E)

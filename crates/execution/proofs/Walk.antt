@@ -21,6 +21,10 @@ module _ (E : List Operation) (s : List ℕ) (n k : ℕ) (h : k < n) where
   pub source_more : may_see E (source_at s k) (op E k).action ≡ true → sources_from (n - k) E s k ≡ sources_from (n - (k + 1)) E s (k + 1)
   source_more t = let e = step in grind arith
 
+  -- a source that may not be seen is the fault
+  pub source_stop : may_see E (source_at s k) (op E k).action ≡ false → sources_from (n - k) E s k ≡ Err (wrong_source k)
+  source_stop t = let e = step in grind arith
+
 module _ (E : List Operation) (s : List ℕ) (at : ℕ) where
   -- a step that finds a field
   pub walk_on : (m n : ℕ) → m ≡ n + 1 → 0 < length s → read_from m E s at ≡ and_then (moved at (operation_in E s)) (λ o. read_from n (E ++ o ∷ []) (drop 9 s) (at + 9))

@@ -1,11 +1,11 @@
 -- The house's next call, and that it is not refused.
-use Rattle.std.proofs.Common.{◌≡◌, ℕ, Bool, false, List, [], ◌∷◌, Some, None, Ok, Err, Option, Result, MatchOption, sym, refl, ap, subst}
+use Rattle.std.proofs.Common.{◌≡◌, ℕ, Bool, false, List, [], ◌∷◌, take, Some, None, Ok, Err, Option, Result, MatchOption, sym, refl, ap, ◌∙◌, subst}
 use Rattle.std.specs.List.{AllByRecursion}
 use Rattle.std.specs.Result.{IsOk}
 use Rattle.field.specs.declared.refusal.Refusal.{Refusal}
 use Rattle.execution.specs.declared.operation.Operation.{Operation}
 use Rattle.theory.specs.Lists.{first_by}
-use Rattle.theory.specs.Order.{cyclic}
+use Rattle.theory.specs.Order.{Rows, cyclic}
 use Rattle.theory.specs.Case.{open', Model, Call, propose, Answer, admitted, granted, refusal, lacks, claims, splits, greedy, tries, next_call, Replies, taken, proposed}
 use Rattle.theory.proofs.Firsts.{first_some}
 use Rattle.theory.proofs.Refusals.{granted_none}
@@ -35,6 +35,10 @@ taken_in o g N pre r post h j = let k : By None g N pre r post = subst (λ x. By
 pub admitted_none : (L : ℕ → ℕ → Bool) (E : List Operation) {M M' : Model} {q : Call} → Replies L E M q admitted M' → refusal E M q ≡ None
 admitted_none L E (taken c h) = h
 admitted_none L E (proposed h s) = h
+
+-- the test of cycles, as far as there are operations
+pub no_cycle : {n m : ℕ} (R : Rows) {b : Bool} → n ≡ m → b ≡ cyclic (take n R) → b ≡ false → cyclic (take m R) ≡ false
+no_cycle R e p q = subst (λ k. cyclic (take k R) ≡ false) e (sym p ∙ q)
 
 module _ (g : Given) (d : Desk) (o : (model g d).state ≡ open') where
   -- where there is no cycle, the first claim that a rule asks for is next; where no rule asks for more, a split, if one is left

@@ -1,12 +1,10 @@
 -- The rows of the local order, bit by bit.
-use Rattle.std.proofs.Common.{◌≡◌, ℕ, zero, suc, ◌+◌, ◌*◌, ◌/◌, ◌%◌, ◌^◌, ◌<◌, ◌≤◌, Bool, true, false, ◌&&◌, ◌||◌, T, eqb, ltb, List, ◌∷◌, cond, filter, fold, length, get_or, take, replicate, sym, refl, ap, ◌∙◌, subst, inl, inr, pow-suc, arith, eqb→eq, ltb→lt, lt→ltb}
+use Rattle.std.proofs.Common.{◌≡◌, ℕ, zero, suc, ◌+◌, ◌*◌, ◌/◌, ◌%◌, ◌^◌, ◌<◌, ◌≤◌, ◌≢◌, Bool, true, false, ◌&&◌, ◌||◌, T, eqb, ltb, List, ◌∷◌, cond, filter, fold, length, get_or, set, take, replicate, sym, refl, ap, ◌∙◌, subst, inl, inr, pow-suc, arith, eqb→eq, ltb→lt, lt→ltb}
 use lib.Bits.{bit_or}
-use denote.Param.Members.{Mut, Called}
-use Rattle.std.specs.Array.{IsFromFnResultFrom}
 use lib.Dec.{eqb-zero-suc, eqb-suc-zero, eqb-suc-suc}
 use Rattle.std.specs.List.{range_with_len}
 use Rattle.std.proofs.lemmas.Nat.{one_shl}
-use Rattle.std.proofs.lemmas.List.{get_or_past, get_or-replicate, length-replicate, length-take-le}
+use Rattle.std.proofs.lemmas.List.{get_or_past, get_or-replicate, length-replicate, length-take-le, get_or-set_same, get_or-set_other}
 use Rattle.std.proofs.lemmas.Bool.{cases_eq, cases_lt, le-ltb}
 use Rattle.execution.specs.declared.operation.Operation.{Operation}
 use Rattle.rulebook.specs.declared.seen.Seen.{Seen}
@@ -95,15 +93,17 @@ module _ (f : ℕ → Bool) where
   pub marks_all : (n : ℕ) → n ≤ 32 → ((y : ℕ) → T (f y) → y < n) → bit (marks 0 (filter f (range_with_len 0 n))) ≡ f
   marks_all n h here = row_end f _ n (marked n 0 0 n (omega arith) h (λ y. bit_none y ∙ ap (λ t. t && f y) (sym (le-ltb y 0 (omega arith))))) here
 
--- each number's call gave what stands at its place; the calls change no capture
-module _ {F B : Type 0} (g : Mut F (ℕ × Unit {0}) B) (P : ℕ → B → Type 0) (f : F) (turn : (i : ℕ) (y : B) (q : F) → Called g f (i, tt) y q → (q ≡ f) × P i y) where
-  pub made : (ys : List B) (i n : ℕ) → IsFromFnResultFrom g f ys i n → (k : ℕ) (d : B) → i ≤ k → k < i + n → P k (get_or ys k d)
-  made ys i zero e k d l h = absurd (omega arith)
-  made ys i (suc n) (q, y, at, call, rest) k d l h =
-      elim (cases_eq k i) [
-        | inl e ↦ subst (λ z. P z (get_or ys z d)) (sym e) (subst (P i) (sym (at.1 d)) (turn i y q call).1)
-        | inr e ↦ made ys (i + 1) n (subst (λ s. IsFromFnResultFrom g s ys (i + 1) n) (turn i y q call).0 rest) k d (omega arith) (omega arith)
-      ]
+-- a row more
+pub rows_more : (f : ℕ → ℕ → Bool) (rows : List ℕ) (a row : ℕ) → a < length rows → ((x y : ℕ) → x < a → bit (get_or rows x 0) y ≡ f x y) → ((y : ℕ) → bit row y ≡ f a y)
+    → (x y : ℕ) → x < a + 1 → bit (get_or (set rows a row) x 0) y ≡ f x y
+rows_more f rows a row h before here x y l =
+    elim (cases_eq x a) [
+      | inl e ↦ subst (λ z. bit (get_or (set rows a row) z 0) y ≡ f z y) (sym e) (ap (λ r. bit r y) (get_or-set_same rows a row 0 h) ∙ here y)
+      | inr d ↦ ap (λ r. bit r y) (get_or-set_other rows a x row 0 d) ∙ before x y (omega arith)
+    ]
+
+pub rest_more : (rows : List ℕ) (a row : ℕ) → ((x : ℕ) → a ≤ x → get_or rows x 0 ≡ 0) → (x : ℕ) → a + 1 ≤ x → get_or (set rows a row) x 0 ≡ 0
+rest_more rows a row rest x l = let d : x ≢ a = omega arith in get_or-set_other rows a x row 0 d ∙ rest x (omega arith)
 
 pub zeros : (n x : ℕ) → get_or {A = ℕ} (replicate n 0) x 0 ≡ 0
 zeros n x = elim (cases_lt x n) [ inl l ↦ get_or-replicate n x 0 0 l | inr l ↦ get_or_past (replicate n 0) x 0 (omega (arith, length-replicate {A = ℕ} n 0)) ]
@@ -119,13 +119,13 @@ module _ (keeps : Seen → Seen → Bool) (law : Law keeps) (E : List Operation)
   past : (rows : List ℕ) (a b : ℕ) → length E ≤ a → get_or rows a 0 ≡ 0 → before rows a b ≡ local keeps E a b
   past rows a b l z = ap (λ r. bit r b) z ∙ bit_none b ∙ not_so (local keeps E a b) (λ t. let h = (kept_here a b t).0 in omega arith)
 
-  module _ (rows : List ℕ) (long : length E ≤ length rows) (here : (x y : ℕ) → x < length rows → bit (get_or rows x 0) y ≡ local keeps E x y) where
+  module _ (rows : List ℕ) (long : length E ≤ length rows) (here : (x y : ℕ) → x < length E → bit (get_or rows x 0) y ≡ local keeps E x y) (rest : (x : ℕ) → length E ≤ x → get_or rows x 0 ≡ 0) where
     pub all_rows : (a b : ℕ) → before rows a b ≡ local keeps E a b
-    all_rows a b = elim (cases_lt a (length rows)) [ inl l ↦ here a b l | inr l ↦ past rows a b (omega arith) (get_or_past rows a 0 l) ]
+    all_rows a b = elim (cases_lt a (length E)) [ inl l ↦ here a b l | inr l ↦ past rows a b l (rest a l) ]
 
     pub cut_rows : (a b : ℕ) → before (take (length E) rows) a b ≡ local keeps E a b
     cut_rows a b =
         elim (cases_lt a (length E)) [
-          | inl l ↦ cut_before (length E) a b rows l ∙ all_rows a b
+          | inl l ↦ cut_before (length E) a b rows l ∙ here a b l
           | inr l ↦ past (take (length E) rows) a b l (get_or_past (take (length E) rows) a 0 (omega (arith, length-take-le (length E) rows long)))
         ]

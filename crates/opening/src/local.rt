@@ -11,7 +11,6 @@ ghost use Rattle.opening.specs.Orders.{Within};
 use execution::Execution;
 use order::Order;
 use rulebook::{RuleBook, Seen};
-use std::array;
 
 // The book is lent beside the execution, here and wherever a case is opened: it is asked, and nothing keeps both.
 /// Is a before b in the local order? The book is asked only about two operations of one thread that runs, the first above the second.
@@ -34,9 +33,14 @@ fn is_local<B: RuleBook>(execution: &Execution, book: &B, a: usize, b: usize) ->
 fn local_row<B: RuleBook>(execution: &Execution, book: &B, a: usize) -> u32
     ensures { bit result ≡ local_by (B.RuleBook.keeps book.now) (ops execution.now) a }
 {
-    (0..execution.len())
-        .filter(|b| is_local(execution, book, a, *b))
-        .fold(0, |row, b| row | 1 << b)
+    // One fold: a `filter` before it takes longer.
+    (0..execution.len()).fold(0, |row, b| {
+        if is_local(execution, book, a, b) {
+            row | 1 << b
+        } else {
+            row
+        }
+    })
 }
 
 /// The local order of a book. It is kept pair by pair as the book answered, so it need not be transitive.
@@ -46,5 +50,10 @@ pub fn local_order<B: RuleBook>(execution: &Execution, book: &B) -> Order
     ensures within { Within (length (ops execution.now)) (rows_of execution.now result) }
     ensures lawful { LawfulOrder (before (rows_of execution.now result)) (ops execution.now) }
 {
-    Order::from(array::from_fn(|a| local_row(execution, book, a)))
+    // A row for each operation, and no `from_fn`: that makes all 32, and of fewer operations took up to three times as long.
+    let mut rows = [0; 32];
+    for a in 0..execution.len() {
+        rows[a] = local_row(execution, book, a);
+    }
+    Order::from(rows)
 }

@@ -1,5 +1,5 @@
 -- What `|`, `&`, `!`, `1 << b` and the lowest bit come to, bit by bit.
-use Rattle.std.proofs.Common.{◌≡◌, ℕ, zero, suc, ◌-◌, ◌/◌, ◌%◌, ◌^◌, ◌<◌, ◌≤◌, min, max, Bool, true, false, not, ◌&&◌, ◌||◌, eqb, ◌⊎◌, Some, None, Option, sym, refl, ap, ◌∙◌, inl, inr, pow-suc, div-one, is_some, IfSome, subst, tests, arith}
+use Rattle.std.proofs.Common.{◌≡◌, ℕ, zero, suc, ◌-◌, ◌/◌, ◌%◌, ◌^◌, ◌<◌, ◌≤◌, min, max, Bool, true, false, cond, not, ◌&&◌, ◌||◌, eqb, ◌⊎◌, Some, None, Option, sym, refl, ap, ◌∙◌, inl, inr, pow-suc, div-one, is_some, IfSome, subst, tests, arith}
 use lib.Bits.{bit_or, bit_and, and_step, and_shr}
 use lib.Count.{count_trailing_zeros, under}
 use Rattle.std.proofs.lemmas.Bool.{cases_lt}
@@ -97,3 +97,14 @@ lowest_less m n h l (Some i) p = (sym (bit_less 32 m n i h l) ∙ p.0, λ k u. s
 pub lowest_same : (f g : ℕ → Bool) → ((k : ℕ) → f k ≡ g k) → (r : Option ℕ) → LowestOf f r → LowestOf g r
 lowest_same f g e None p = λ k u. sym (e k) ∙ p k u
 lowest_same f g e (Some i) p = (sym (e i) ∙ p.0, λ k u. sym (e k) ∙ p.1 k u)
+
+-- numbers that agree bit by bit are one
+pub same_bits : (k m n : ℕ) → m < 2 ^ k → n < 2 ^ k → ((j : ℕ) → j < k → bit m j ≡ bit n j) → m ≡ n
+same_bits zero m n hm hn h = omega arith
+same_bits (suc k) m n hm hn h =
+    let halves : m / 2 ≡ n / 2 = same_bits k (m / 2) (n / 2) (omega (arith, pow-suc 2 k)) (omega (arith, pow-suc 2 k)) (λ j l. sym (bit_suc m j) ∙ h (suc j) (omega arith) ∙ bit_suc n j) in
+    let low : m % 2 ≡ n % 2 = low_digit m ∙ ap (λ t. cond t 1 0) (h 0 (omega arith)) ∙ sym (low_digit n) in
+    omega arith
+  where
+    low_digit : (n : ℕ) → n % 2 ≡ cond (bit n 0) 1 0
+    low_digit n = elim (parity n) [ inl e ↦ e ∙ sym (ap (λ t. cond t 1 0) (bit_zero n ∙ ap (λ v. eqb v 1) e)) | inr e ↦ e ∙ sym (ap (λ t. cond t 1 0) (bit_zero n ∙ ap (λ v. eqb v 1) e)) ]

@@ -5,10 +5,10 @@ ghost use Rattle.std.specs.Prelude.{◌≡◌};
 use super::order::Order;
 
 /// Lends an order for a trial. When the guard goes, by whatever way out, the order is again what was saved.
-/// The saved copy is private, so that nothing but `lend` chooses what is put back.
+/// `lend` saves the order as it is; one who lends it for something else may name what is to be put back.
 pub struct Restore<'a> {
     pub order: &'a mut Order,
-    saved: Order,
+    pub saved: Order,
 }
 
 impl<'a> Restore<'a> {

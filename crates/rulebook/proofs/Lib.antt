@@ -1,2 +1,1 @@
 mod Back
-mod Codes

@@ -15,6 +15,14 @@ use Rattle.rules.specs.declared.claim.Claim.{Claim}
 use Rattle.rules.specs.Claims.{call_of, called, crossed}
 use Rattle.rules.proofs.Scans.{one_passes, one_fails, all_fail, first_passes}
 
+-- of two stores only the split with the lower first is listed
+abbrev pub of_two : ℕ → ℕ → List Call
+of_two s t = cond (ltb s t) (split s t ∷ []) []
+
+-- and it is the first that passes a test, where it passes
+pub two_pass : (f : Call → Bool) (s t : ℕ) → s < t → true ≡ f (split s t) → first_by f (of_two s t) ≡ Some (split s t)
+two_pass f s t h e = ap (first_by f) (cond-true (ltb s t) _ _ (lt-ltb s t h)) ∙ one_passes f (split s t) e
+
 module _ (e : Execution) (o : Order) where
   -- the claims that the order lacks pass
   abbrev f : Call → Bool
@@ -57,10 +65,6 @@ module _ (e : Execution) (o : Order) where
       (first_passes f n (λ a b. claim_c l k a b ∷ []) a b (claim_c l k a b) r s (λ u v h i. one_fails f (claim_c l k u v) (sym (three u h v i))) (λ v h. one_fails f (claim_c l k a v) (sym (four v h)))
       (one_passes f (claim_c l k a b) (sym e)))
 
-  -- of two stores only the split with the lower first is listed
-  abbrev of_two : ℕ → ℕ → List Call
-  of_two s t = cond (ltb s t) (split s t ∷ []) []
-
   two_fail : (s t : ℕ) → (s < t → f (split s t) ≡ false) → first_by f (of_two s t) ≡ None
   two_fail s t h =
       elim (cases_Bool (ltb s t)) [
@@ -80,8 +84,7 @@ module _ (e : Execution) (o : Order) where
 
   pub split_first : (s t : ℕ) → s < t → t < n → ((x : ℕ) → x < s → NoSplit x) → NoSplit_to t s → true ≡ f (split s t) → first_by f (over n (λ s. over n (of_two s))) ≡ Some (split s t)
   split_first s t l m before below e =
-      first_passes f n of_two s t (split s t) (omega arith) m (λ x y b u. two_fail x y (λ k. before x b y k u)) (λ y b. two_fail s y (λ k. below y k b))
-      (ap (first_by f) (cond-true (ltb s t) _ _ (lt-ltb s t l)) ∙ one_passes f (split s t) e)
+      first_passes f n of_two s t (split s t) (omega arith) m (λ x y b u. two_fail x y (λ k. before x b y k u)) (λ y b. two_fail s y (λ k. below y k b)) (two_pass f s t l e)
 
   -- the first of one list, else of the next, else of the last; P and Q are what is known of the later two
   pub of_three : (xs ys zs : List Call) (P Q : Type 0) (c p q : Option Claim) → called c ≡ first_by f xs → MatchOption c P (λ x. p ≡ Some x) → MatchOption p Q (λ x. q ≡ Some x)

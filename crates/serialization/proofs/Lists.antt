@@ -1,9 +1,9 @@
 -- What iterators over a list answer, and over the numbers below a bound.
-use Rattle.std.proofs.Common.{◌≡◌, ℕ, zero, suc, ◌+◌, ◌<◌, Bool, true, false, ◌||◌, eqb, List, [], ◌∷◌, map, length, get_or, Some, None, Option, sym, refl, ap, ◌∙◌, ap₂, subst, arith}
+use Rattle.std.proofs.Common.{◌≡◌, ℕ, zero, suc, ◌+◌, ◌<◌, Bool, true, false, cond, ◌||◌, eqb, List, [], ◌∷◌, map, length, get_or, Some, None, Option, sym, refl, ap, ◌∙◌, ap₂, subst, arith}
 use Rattle.std.specs.Prelude.{MatchBool, MatchOption, Decides, unwrap_or}
 use Rattle.std.specs.List.{range_with_len, list_any, count_by, AllWithin, HoldsAt}
-use Rattle.std.proofs.lemmas.List.FromFn.{length-range_with_len, get_or-range_with_len}
-use Rattle.std.proofs.lemmas.List.Recursion.{is_count_by, found_at, found_nowhere}
+use Rattle.std.proofs.lemmas.List.FromFn.{length-range_with_len, get_or-range_with_len, map-range_with_len_more}
+use Rattle.std.proofs.lemmas.List.Recursion.{is_count_by, found_at, found_nowhere, or_push}
 use Rattle.std.proofs.lemmas.Iterator.{index_from_first}
 use Rattle.std.proofs.lemmas.Bool.{eq-eqb, ne_eqb, cond-true, cond-false}
 use Rattle.theory.specs.Lists.{any, first_by, place, count}
@@ -42,6 +42,10 @@ all_below Yes No n false apart some =
     let h : some.0 < n = omega (arith, length-range_with_len 0 n) in
     (λ e. cc, λ all. absurd (apart some.0 (all some.0 h) (subst No (nth n some.0 h) (some.2 0))))
 
+-- one more number, tested
+pub any_more : (f : ℕ → Bool) (i : ℕ) → any (map f (range_with_len 0 (i + 1))) ≡ (any (map f (range_with_len 0 i)) || f i)
+any_more f i = ap any (map-range_with_len_more f 0 i i (omega arith)) ∙ or_push any (λ b. b) refl (λ _ _. refl) (map f (range_with_len 0 i)) (f i)
+
 -- the lowest number that passes
 module _ (f : ℕ → Bool) (n : ℕ) where
   pub first_at : (j : ℕ) → j < n → ((x : ℕ) → x < j → f x ≡ false) → f j ≡ true → first_by f (range_with_len 0 n) ≡ Some j
@@ -60,3 +64,11 @@ module _ (f g : ℕ → Bool) where
 
   pub any_same : (n : ℕ) → ((x : ℕ) → x < n → f x ≡ g x) → any (map f (range_with_len 0 n)) ≡ any (map g (range_with_len 0 n))
   any_same n h = ap any (maps_from 0 n (λ x l. h x (omega arith)))
+
+  firsts_from : (i k : ℕ) → ((x : ℕ) → x < i + k → f x ≡ g x) → first_by f (range_with_len i k) ≡ first_by g (range_with_len i k)
+  firsts_from i zero h = refl
+  firsts_from i (suc k) h = ap₂ (λ b o. cond b (Some i) o) (h i (omega arith)) (firsts_from (i + 1) k (λ x l. h x (omega arith)))
+
+  -- and have the same lowest number
+  pub first_same : (n : ℕ) → ((x : ℕ) → x < n → f x ≡ g x) → first_by f (range_with_len 0 n) ≡ first_by g (range_with_len 0 n)
+  first_same n h = firsts_from 0 n (λ x l. h x (omega arith))

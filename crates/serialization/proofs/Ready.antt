@@ -8,7 +8,6 @@ use Rattle.std.proofs.Math.Bool.{or-false, and-true, and-false, or_assoc}
 use Rattle.std.proofs.lemmas.Nat.{or_lt, one_shl, pow_below, pow_pos}
 use Rattle.std.proofs.lemmas.Nat.Bits.{bit_at-pow_same, bit_at-pow_other}
 use Rattle.std.proofs.lemmas.List.Recursion.{or_push}
-use Rattle.std.proofs.Math.Path.{fun_ext}
 use Rattle.std.proofs.lemmas.Bool.{cases_eq, cases_lt, eq-eqb, ne_eqb, lt-ltb, le-ltb}
 use Rattle.execution.specs.declared.operation.Operation.{Operation}
 use Rattle.theory.specs.Lists.{any, first_by, member}
@@ -22,7 +21,7 @@ use Rattle.theory.proofs.Marks.{mark, mark_or, mark_power, ones_strict}
 use Rattle.order.specs.Bits.{bit, Lowest}
 use Rattle.order.proofs.Bitwise.{bit-or, bit_not, bit_none}
 use Rattle.serialization.specs.Arrangements.{waits, free}
-use Rattle.serialization.proofs.Lists.{first_at, first_nowhere, any_same}
+use Rattle.serialization.proofs.Lists.{first_at, first_nowhere, any_same, first_same}
 
 -- 2 ^ b has bit b alone
 bit_power : (b y : ℕ) → bit (2 ^ b) y ≡ eqb b y
@@ -86,7 +85,7 @@ module _ (E : List Operation) (R : Rows) (placed : ℕ) (p : List ℕ) (mask : M
       (λ x l. ap₂ (λ u v. u && not v) (sym (cut_before (length E) x a R l)) (mask x)))
 
   first_ready : (n : ℕ) → n ≡ length E → (o : Option ℕ) → o ≡ first_by (free R placed n) (range_with_len 0 n) → first_by (ready E (take (length E) R) p) (range_with_len 0 (length E)) ≡ o
-  first_ready n e o f = sym (f ∙ ap (λ m. first_by (free R placed m) (range_with_len 0 m)) e ∙ ap (λ g. first_by g (range_with_len 0 (length E))) (fun_ext ready_is))
+  first_ready n e o f = sym (f ∙ ap (λ m. first_by (free R placed m) (range_with_len 0 m)) e ∙ first_same _ _ (length E) (λ a _. ready_is a))
 
 mask_push : (placed a : ℕ) (p : List ℕ) → a < 32 → Masks placed p → Masks (bit_or placed ((1 * 2 ^ a) % 2 ^ 32)) (p ++ a ∷ [])
 mask_push placed a p h mask x =

@@ -42,18 +42,14 @@ module _ (L : ℕ → ℕ → Bool) (E : List Operation) (lawful : LawfulOrder L
     serial_free : NoneBetween E at
     serial_free l t h k c p q = let s = source_here E W l (touch_parts E t l c).load in S.none_between l t c (omega (arith, places (source E l) s, places t k)) (omega (arith, places l h, places t k))
 
--- the same of an execution, where the number of operations goes by another name
-module _ (e : Execution) (R : Rows) (σ at : List ℕ) (places : (k : ℕ) → k < 32 → get_or at k 0 ≡ place σ k)
-    (L : ℕ → ℕ → Bool) (lawful : LawfulOrder L (ops e)) (says : Says (ops e) (take (length (ops e)) R) (Opening L (ops e))) where
+-- the same, where the number of operations goes by another name
+module _ (L : ℕ → ℕ → Bool) (E : List Operation) (lawful : LawfulOrder L E) (W : WellFormed E) (R : Rows) (says : Says E (take (length E) R) (Opening L E)) (σ at : List ℕ) where
   abbrev Tested : ℕ → Type 0
   Tested n =
-      (length σ ≡ n → EachOnce n σ → Keeps n (take n R) at → NoneBetween (ops e) at → Serialization L (ops e) σ)
-      × (Serialization L (ops e) σ → Keeps n (take n R) at × NoneBetween (ops e) at)
+      ((k : ℕ) → k < n → get_or at k 0 ≡ place σ k)
+      → (length σ ≡ n → EachOnce n σ → Keeps n (take n R) at → NoneBetween E at → Serialization L E σ) × (Serialization L E σ → Keeps n (take n R) at × NoneBetween E at)
 
-  pub tested : (n : ℕ) → n ≡ length (ops e) → Tested n
-  tested n m =
-      let short = few e in
-      let W = formed e in
-      let O = take (length (ops e)) R in
-      let here : (k : ℕ) → k < length (ops e) → get_or at k 0 ≡ place σ k = λ k h. places k (omega arith) in
-      subst Tested (sym m) (serial_by L (ops e) lawful W O says σ at here, λ S. (serial_keeps L (ops e) lawful W O says σ at here S, serial_free L (ops e) lawful W O says σ at here S))
+  pub tested : (n : ℕ) → n ≡ length E → Tested n
+  tested n e =
+      subst Tested (sym e)
+      (λ places. (serial_by L E lawful W (take (length E) R) says σ at places, λ S. (serial_keeps L E lawful W (take (length E) R) says σ at places S, serial_free L E lawful W (take (length E) R) says σ at places S)))

@@ -21,9 +21,14 @@ fn held_back(order: &Order, n: usize, placed: u32) -> u32
     requires { n ≤ 32 }
     ensures { (a : ℕ) → bit result a ≡ waits order.now.rows placed n a }
 {
-    (0..n)
-        .filter(|x| !has(placed, *x))
-        .fold(0, |waiting, x| waiting | order.row(x))
+    // One fold: a `filter` before it takes longer.
+    (0..n).fold(0, |waiting, x| {
+        if !has(placed, x) {
+            waiting | order.row(x)
+        } else {
+            waiting
+        }
+    })
 }
 
 /// The lowest of the first n that is not placed, and before which all are placed that have to be.

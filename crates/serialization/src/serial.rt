@@ -62,6 +62,6 @@ pub fn is_serialization(execution: &Execution, opening: &Order, order: &[u8]) ->
     if order.len() != n || !each_once(n, order) {
         return false;
     }
-    let at = places(order);
+    let at = places(n, order);
     keeps(opening, n, &at) && none_between(execution, &at)
 }
