@@ -27,7 +27,7 @@ pub enum Reply {
     /// How many turns the house took, and the state after them.
     Made(u16, State),
     /// How many pairs would be added, and whether there would be a cycle.
-    // The byte first, so that an answer is no larger for it: fields lie in the order in which they stand here.
+    // `cycle` first: fields lie in the order in which they stand here, and with `added` first an answer would be four bytes longer.
     Supposed { cycle: bool, added: u32 },
     /// Yes or no.
     Says(bool),

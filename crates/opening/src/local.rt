@@ -50,7 +50,7 @@ pub fn local_order<B: RuleBook>(execution: &Execution, book: &B) -> Order
     ensures within { Within (length (ops execution.now)) (rows_of execution.now result) }
     ensures lawful { LawfulOrder (before (rows_of execution.now result)) (ops execution.now) }
 {
-    // A row for each operation, and no `from_fn`: that makes all 32, and of fewer operations took up to three times as long.
+    // A row for each operation, and no `from_fn`: that makes all 32, and took longer where there are fewer operations.
     let mut rows = [0; 32];
     for a in 0..execution.len() {
         rows[a] = local_row(execution, book, a);

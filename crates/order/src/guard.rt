@@ -5,7 +5,7 @@ ghost use Rattle.std.specs.Prelude.{◌≡◌};
 use super::order::Order;
 
 /// Lends an order for a trial. When the guard goes, by whatever way out, the order is again what was saved.
-/// `lend` saves the order as it is; one who lends it for something else may name what is to be put back.
+/// `lend` saves the order as it is. A guard may also be made with another order to put back.
 pub struct Restore<'a> {
     pub order: &'a mut Order,
     pub saved: Order,

@@ -5,7 +5,7 @@ ghost use Rattle.std.specs.Prelude.{◌≡◌, ◌≤◌, length, ⊤};
 use std::alloc::AllocError;
 
 /// A list of at most N items: the first `count` of an array. What stands past them is never read.
-// Our own, since a library's vector in an array may not be copied, as a room of operations or of numbers is.
+// Our own, since a library's vector in an array may not be copied, as a room of operations or of numbers may.
 pub struct Room<T, const N: usize> {
     items: [T; N],
     count: usize,

@@ -29,7 +29,7 @@ fn lacks_b(execution: &Execution, order: &Order, load: usize, source: usize, sto
     requires { Asked (ops execution.now) load source store }
     ensures { result ≡ lacks (ops execution.now) (rows_of execution.now order.now) (claim_b load store) }
 {
-    // One mask for all stores of a load, and first: most of them have no bit there, and what a store touches takes several look-ups.
+    // By a mask, which is the same for all stores of a load, and before `touches`, which takes several look-ups: most stores have no bit in it.
     has(after_source_only(order, source, load), store) && execution.touches(store, load)
 }
 

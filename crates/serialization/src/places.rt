@@ -18,7 +18,7 @@ fn place(order: &[u8], a: usize) -> usize
 pub(super) fn count(order: &[u8], a: usize) -> usize
     ensures { result ≡ count_in order.now a }
 {
-    // Added up, not `filter` and `count`, which took twice the time.
+    // Added up: `filter` and `count` took longer.
     order
         .iter()
         .map(|number| usize::from(usize::from(*number) == a))
@@ -30,7 +30,7 @@ pub(super) fn places(n: usize, order: &[u8]) -> [usize; 32]
     requires { n ≤ 32 }
     ensures { (k : ℕ) → k < n → slice_index result k ≡ place_in order.now k }
 {
-    // Of these alone, and no `from_fn`: that fills all 32, and of fewer operations took up to three times as long.
+    // Of these alone, and no `from_fn`: that fills all 32, and took longer where there are fewer operations.
     let mut at = [0; 32];
     for a in 0..n {
         at[a] = place(order, a);
